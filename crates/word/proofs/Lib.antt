@@ -1,0 +1,4 @@
+pub mod RoundTrips
+pub mod Steps
+pub mod Verbs
+pub mod Determined

@@ -1,0 +1,27 @@
+-- Why split and join undo each other. A word is the number with the four digits nX, nS, mX, mS to the base 2^16: a digit
+-- and what stands above it make what stands there (`digit`), and three times over that is the whole word. The other way
+-- round, each digit below 2^16 is what the division leaves.
+-- Assumes nothing.
+use Prim.Native.Nat.{ℕ, _+_, _*_, _<_, _/_, _%_, _^_}
+use mathlib.Core.Path.{_≡_}
+use native.Mathlib.Nat.{div-div-eq-div-mul, div-add-mod'}
+use native.Mathlib.Omega.{arith}
+use Rattle.word.specs.Word.{splitOf, joinOf}
+use Rattle.word.specs.Promises.{Narrow, WordComesBack, CountersComeBack}
+use Rattle.word.specs.declared.Counters.{Counters}
+
+digit : (w k : ℕ) → w / (k * 65536) * 65536 + w / k % 65536 ≡ w / k
+digit w k = rw (← div-div-eq-div-mul w k 65536) (div-add-mod' (w / k) 65536)
+
+pub word-comes-back : WordComesBack
+word-comes-back w h = omega (arith, digit w 1, digit w 65536, digit w 4294967296)
+
+-- four numbers as counters
+abbrev four : ℕ → ℕ → ℕ → ℕ → Counters
+four a b c d = record { nx = record { 0 = a }; ns = record { 0 = b }; mx = record { 0 = c }; ms = record { 0 = d } }
+
+four-same : {a b c d a′ b′ c′ d′ : ℕ} → a ≡ a′ → b ≡ b′ → c ≡ c′ → d ≡ d′ → four a b c d ≡ four a′ b′ c′ d′
+four-same p q r s = cc
+
+pub counters-come-back : CountersComeBack
+counters-come-back c n = four-same (omega arith) (omega arith) (omega arith) (omega arith)

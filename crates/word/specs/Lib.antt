@@ -1,0 +1,4 @@
+pub mod Choice
+pub mod Word
+pub mod Promises
+pub mod Determined

@@ -1,0 +1,78 @@
+-- The lock word: four counters in one 64-bit number, the order of two counters of one kind, and the three verbs.
+-- Nothing here knows of requests, tickets or boards.
+use Prim.Native.Nat.{ℕ, _+_, _*_, _-_, _^_, _/_, _%_}
+use mathlib.Core.Bool.{Bool}
+use lib.Dec.{eqb, leb, ltb}
+use Rattle.word.specs.Choice.{if_then_else_}
+use Rattle.word.specs.declared.Exclusive.{Exclusive}
+use Rattle.word.specs.declared.Shared.{Shared}
+use Rattle.word.specs.declared.Counters.{Counters}
+use Rattle.word.specs.declared.Counter.{Counter}
+use Rattle.word.specs.declared.Counter.the-variants.{NX, NS, MX, MS}
+
+-- How many values a counter has: it is 16 bits wide.
+abbrev pub WIDTH : ℕ
+WIDTH = 2 ^ 16
+
+-- One step of a counter: 1 for mS, 2^16 for mX, 2^32 for nS, 2^48 for nX.
+abbrev pub stepOf : Counter → ℕ
+stepOf NX = 2 ^ 48
+stepOf NS = 2 ^ 32
+stepOf MX = 2 ^ 16
+stepOf MS = 1
+
+-- Taking one back adds 2^64 less that step.
+abbrev pub backOf : Counter → ℕ
+backOf k = 2 ^ 64 - stepOf k
+
+-- What the counter k of a word holds: as many of its steps as the word has, in 16 bits.
+abbrev pub heldBy : Counter → ℕ → ℕ
+heldBy k w = w / stepOf k % WIDTH
+
+-- The four counters of a word.
+abbrev pub splitOf : ℕ → Counters
+splitOf w =
+    record {
+      nx = record { 0 = heldBy NX w };
+      ns = record { 0 = heldBy NS w };
+      mx = record { 0 = heldBy MX w };
+      ms = record { 0 = heldBy MS w };
+    }
+
+-- The word that four counters make: each counts its steps.
+abbrev pub joinOf : Counters → ℕ
+joinOf c = c .nx .0 * stepOf NX + c .ns .0 * stepOf NS + c .mx .0 * stepOf MX + c .ms .0 * stepOf MS
+
+-- Two exclusive counters: the first is past the second; has reached it; equals it; how far it is beyond it, 0 where it is not.
+abbrev pub exceedsX : Exclusive → Exclusive → Bool
+exceedsX a b = ltb (b .0) (a .0)
+
+abbrev pub reachesX : Exclusive → Exclusive → Bool
+reachesX a b = leb (b .0) (a .0)
+
+abbrev pub equalsX : Exclusive → Exclusive → Bool
+equalsX a b = eqb (a .0) (b .0)
+
+abbrev pub beyondX : Exclusive → Exclusive → ℕ
+beyondX a b = a .0 - b .0
+
+-- The same of two shared counters. No function takes one of each kind.
+abbrev pub exceedsS : Shared → Shared → Bool
+exceedsS a b = ltb (b .0) (a .0)
+
+abbrev pub reachesS : Shared → Shared → Bool
+reachesS a b = leb (b .0) (a .0)
+
+abbrev pub equalsS : Shared → Shared → Bool
+equalsS a b = eqb (a .0) (b .0)
+
+abbrev pub beyondS : Shared → Shared → ℕ
+beyondS a b = a .0 - b .0
+
+-- add k: the word becomes (word + k) modulo 2^64.
+abbrev pub addOf : ℕ → ℕ → ℕ
+addOf w k = (w + k) % 2 ^ 64
+
+-- swap old, new: the word becomes new if it equals old, else it stays.
+abbrev pub swapOf : ℕ → ℕ → ℕ → ℕ
+swapOf w old new = if eqb w old then new else w
