@@ -1,0 +1,97 @@
+// A request as it is kept: plain numbers that a C caller can store, and how they are read.
+// It relies on the contract of `ticket` alone, and knows no verb and no word.
+ghost use mathlib.Core.Path.{_≡_};
+ghost use Rattle.request.specs.Request.{phaseNumber, phaseOf, modeOf, freeRequest, openedRequest, inPhase};
+use ticket::Mode;
+use ticket::Ticket;
+use word::Exclusive;
+use word::Shared;
+
+// A request: plain numbers that C can hold, 16 bytes, all 0 when free. A clearing word of 0 is none.
+#[repr(C)]
+pub struct Request {
+    pub record: u16,
+    pub mode: u8,
+    pub phase: u8,
+    pub ticket: Ticket,
+    pub clearing: u64,
+}
+
+pub enum Phase {
+    Free,
+    Asking,
+    Waiting,
+    Held,
+    Owing,
+    Clearing,
+}
+
+// The number that a phase is kept as.
+pub fn phase_number(p: Phase) -> u8
+    ensures { λ r. ⌜ r ≡ phaseNumber p ⌝ }
+{
+    match p {
+        Phase::Free => 0,
+        Phase::Asking => 1,
+        Phase::Waiting => 2,
+        Phase::Held => 3,
+        Phase::Owing => 4,
+        Phase::Clearing => 5,
+    }
+}
+
+// The phase of a kept number: any number but 1 to 5 counts as free.
+pub fn phase_of(n: u8) -> Phase
+    ensures { λ r. ⌜ r ≡ phaseOf n ⌝ }
+{
+    match n {
+        1 => Phase::Asking,
+        2 => Phase::Waiting,
+        3 => Phase::Held,
+        4 => Phase::Owing,
+        5 => Phase::Clearing,
+        _ => Phase::Free,
+    }
+}
+
+// The mode of a kept number: any number but 0 counts as 1.
+pub fn mode_of(n: u8) -> Mode
+    ensures { λ r. ⌜ r ≡ modeOf n ⌝ }
+{
+    if n == 0 { Mode::Reader } else { Mode::Writer }
+}
+
+// The one content of a free slot.
+pub fn free() -> Request
+    ensures { λ r. ⌜ r ≡ freeRequest ⌝ }
+{
+    Request {
+        record: 0,
+        mode: 0,
+        phase: 0,
+        ticket: Ticket(Exclusive(0), Shared(0)),
+        clearing: 0,
+    }
+}
+
+// A request that is to ask for a record.
+pub fn opened(record: u16, mode: u8) -> Request
+    ensures { λ r. ⌜ r ≡ openedRequest «record» mode ⌝ }
+{
+    Request {
+        record,
+        mode,
+        phase: 1,
+        ticket: Ticket(Exclusive(0), Shared(0)),
+        clearing: 0,
+    }
+}
+
+// The request in another phase, all else as it was.
+pub fn in_phase(q: Request, p: Phase) -> Request
+    ensures { λ r. ⌜ r ≡ inPhase p q ⌝ }
+{
+    let mut next = q;
+    next.phase = phase_number(p);
+    next
+}
