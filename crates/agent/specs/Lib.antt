@@ -1,3 +1,4 @@
 pub mod Life
 pub mod Answers
 pub mod Examples
+pub mod Edges

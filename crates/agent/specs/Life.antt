@@ -40,7 +40,7 @@ releaseCounter Reader = NS
 releaseCounter Writer = NX
 
 -- What a step sends, by phase: Asking adds 1; Waiting reads; Owing takes its 1 back from the same counter; Clearing swaps the
--- clearing word for 0. A free request and a Held one send nothing.
+-- clearing word for 0, and 0 for 0 where it has none, since none is kept as 0. A free request and a Held one send nothing.
 abbrev pub stepSendsIn : Phase → Request → Verb
 stepSendsIn Free q = verb.Nothing
 stepSendsIn Asking q = verb.Add (stepOf (ticketCounter (modeOf (q .mode))))

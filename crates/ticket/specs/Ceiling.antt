@@ -17,7 +17,7 @@ CEIL = 32768
 abbrev pub LAST : ℕ
 LAST = 32767
 
--- No clearing word is kept as 0: no rule gives a clearing word that is 0.
+-- Having no clearing word is kept as the number 0. `ClearingWordIsSome` says that the rules give no clearing word 0.
 abbrev pub NONE : ℕ
 NONE = 0
 

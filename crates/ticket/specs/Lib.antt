@@ -1,2 +1,3 @@
 pub mod Turn
 pub mod Ceiling
+pub mod Promises

@@ -1,5 +1,5 @@
 // A ticket and what the word says of it: whether the record is full, the clearing word of the last ticket of a kind, and the turn test.
-// An exclusive number meets exclusive counters alone, a shared one shared counters alone: nothing else types.
+// It compares by the methods of `word` alone, so that an exclusive number meets exclusive counters and a shared one shared counters.
 ghost use mathlib.Core.Path.{_≡_};
 ghost use Rattle.ticket.specs.Turn.{isWriter, aheadOf, passedAt, grantedAt, turnOf};
 ghost use Rattle.ticket.specs.Ceiling.{fullAt, restOf, clearingWordOf};

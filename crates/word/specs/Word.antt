@@ -56,7 +56,7 @@ equalsX a b = eqb (a .0) (b .0)
 abbrev pub beyondX : Exclusive → Exclusive → ℕ
 beyondX a b = a .0 - b .0
 
--- The same of two shared counters. No function takes one of each kind.
+-- The same of two shared counters. No comparison takes one of each kind.
 abbrev pub exceedsS : Shared → Shared → Bool
 exceedsS a b = ltb (b .0) (a .0)
 

@@ -1,4 +1,4 @@
-// Exclusive counters against exclusive counters: no function here or elsewhere takes one of each kind.
+// Exclusive counters against exclusive counters. No comparison takes one of each kind.
 ghost use mathlib.Core.Path.{_≡_};
 ghost use Rattle.word.specs.Word.{exceedsX, reachesX, equalsX, beyondX};
 use crate::Exclusive;

@@ -1,4 +1,4 @@
-// Shared counters against shared counters: no function here or elsewhere takes one of each kind.
+// Shared counters against shared counters. No comparison takes one of each kind.
 ghost use mathlib.Core.Path.{_≡_};
 ghost use Rattle.word.specs.Word.{exceedsS, reachesS, equalsS, beyondS};
 use crate::Shared;
