@@ -1,0 +1,28 @@
+-- The three ways a begin goes.
+-- Assumes nothing.
+use Prim.Native.Nat.{ℕ, _<_, _≤_}
+use mathlib.Core.Path.{_≡_, refl}
+use mathlib.Core.Bool.{Bool, true, or-true}
+use mathlib.Core.List.{List}
+use borrow.Author.Tests.{eq-eqb, ne-eqb, lt-ltb, le-ltb}
+use lib.Dec.{eqb}
+use lib.ListN.{length, replicate}
+use Rattle.slots.specs.Slots.{freshSlots}
+use Rattle.visit.specs.declared.Answer.the-variants.{Begun}
+use Rattle.board.specs.Board.{State, Done, refused, begun}
+
+module _ (s : State) where
+  pub begun-none : length (s .words) ≡ 0 → begun s ≡ refused 9 s
+  unfolding begun
+  begun-none e = rw (eq-eqb (length (s .words)) 0 e) refl
+
+  pub begun-many : 4096 < length (s .words) → begun s ≡ refused 9 s
+  unfolding begun
+  begun-many h = rw (lt-ltb 4096 (length (s .words)) h, or-true (eqb (length (s .words)) 0)) refl
+
+  pub begun-all :
+      (length (s .words) ≡ 0 → ⊥) →
+      length (s .words) ≤ 4096 →
+      begun s ≡ record { slots = freshSlots; words = replicate (length (s .words)) 0; answer = Begun }
+  unfolding begun
+  begun-all n h = rw (ne-eqb (length (s .words)) 0 n, le-ltb 4096 (length (s .words)) h) refl

@@ -1,0 +1,4 @@
+pub mod Visits
+pub mod Begins
+pub mod Promises
+pub mod Determined

@@ -1,0 +1,4 @@
+pub mod Board
+pub mod Leaves
+pub mod Promises
+pub mod Examples

@@ -1,0 +1,25 @@
+-- What is promised of the calls on a board. Statements only: proofs/ has why each holds.
+use Prim.Native.Nat.{ℕ, _<_}
+use mathlib.Core.Path.{_≡_}
+use mathlib.Core.Bool.{true, false}
+use lib.ListN.{length}
+use Rattle.slots.specs.Slots.{SLOTS, inUse}
+use Rattle.call.specs.declared.Call.{Call}
+use Rattle.call.specs.declared.Call.the-variants.{Open}
+use Rattle.visit.specs.declared.Answer.the-variants.{Refused, Opened}
+use Rattle.board.specs.Board.{State, stateOf, slotAt, begun, played}
+
+-- A refused call leaves the whole state, a refused begin too.
+abbrev pub RefusedKeeps : Type 0
+RefusedKeeps = (c : Call) (s : State) (n : ℕ) → played c s .answer ≡ Refused n → stateOf (played c s) ≡ s
+
+abbrev pub RefusedBeginKeeps : Type 0
+RefusedBeginKeeps = (s : State) (n : ℕ) → begun s .answer ≡ Refused n → stateOf (begun s) ≡ s
+
+-- The slot opened was free, and every lower one in use.
+abbrev pub OpenedIsLowest : Type 0
+OpenedIsLowest =
+    (r m : ℕ) (s : State) (k : ℕ) →
+    length (s .slots) ≡ SLOTS →
+    played (Open r m) s .answer ≡ Opened k →
+    (inUse (slotAt s k) ≡ false) × ((j : ℕ) → j < k → inUse (slotAt s j) ≡ true)

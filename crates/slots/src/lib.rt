@@ -1,0 +1,160 @@
+// The table of 256 request slots, and a map of four u64 over it: trailing zeros find the lowest free slot, counts of ones give the
+// slots in use. It relies on the contract of `request`, and knows no word and no verb.
+ghost use mathlib.Core.Path.{_≡_};
+ghost use Rattle.slots.specs.Slots.{inUse, freshSlots};
+ghost use Rattle.slots.specs.Map.{bitOf, bitsOf, mapOf, lowestZero, onesOf, ALL, plus, markedOf};
+ghost use lib.Count.{trailingZeros, ones};
+ghost use lib.ListN.{take, drop};
+ghost use Prim.Native.Nat.{_-_, _^_, _%_, _≤_};
+use request::Phase;
+use request::Request;
+
+pub struct Board {
+    pub slots: [Request; 256],
+}
+
+// A one for each slot in use.
+pub struct Map {
+    pub parts: [u64; 4],
+}
+
+// Whether a slot with this request is in use.
+pub fn in_use(q: Request) -> bool
+    ensures { λ r. ⌜ r ≡ inUse q ⌝ }
+{
+    let phase = request::phase_of(q.phase);
+    match phase {
+        Phase::Free => false,
+        Phase::Asking => true,
+        Phase::Waiting => true,
+        Phase::Held => true,
+        Phase::Owing => true,
+        Phase::Clearing => true,
+    }
+}
+
+// All slots free.
+pub fn fresh() -> Board
+    ensures { λ r. ⌜ r .slots ≡ freshSlots ⌝ }
+{
+    let free = request::free();
+    Board { slots: [free; 256] }
+}
+
+fn bit(q: Request) -> u64
+    ensures { λ r. ⌜ r ≡ bitOf q ⌝ }
+{
+    if in_use(q) {
+        return 1;
+    }
+    0
+}
+
+// The bits of the 64 slots from a place on.
+fn part(b: Board, from: usize) -> u64
+    requires { ⌜ from ≤ 192 ⌝ }
+    ensures { λ r. ⌜ r ≡ bitsOf (take 64 (drop from (b .slots))) ⌝ }
+{
+    let mut bits: u64 = 0;
+    let mut j: usize = 64;
+    while 0 < j {
+        j -= 1;
+        bits = bits * 2 + bit(b.slots[from + j]);
+    }
+    bits
+}
+
+// The map of a table.
+pub fn map_of(b: Board) -> Map
+    ensures { λ r. ⌜ r .parts ≡ mapOf (b .slots) ⌝ }
+{
+    let first = part(b, 0);
+    let second = part(b, 64);
+    let third = part(b, 128);
+    let fourth = part(b, 192);
+    Map {
+        parts: [first, second, third, fourth],
+    }
+}
+
+// The lowest zero of one part, 64 where it has none.
+fn zero_in(part: u64) -> u64
+    ensures place { λ r. ⌜ r ≡ trailingZeros 64 (ALL - part) ⌝ }
+    ensures small { λ r. ⌜ r ≤ 64 ⌝ }
+{
+    u64::trailing_zeros(u64::MAX - part) as u64
+}
+
+fn ones_in(part: u64) -> u64
+    ensures number { λ r. ⌜ r ≡ ones part ⌝ }
+    ensures small { λ r. ⌜ r ≤ 64 ⌝ }
+{
+    u64::count_ones(part) as u64
+}
+
+// The lowest slot whose bit is zero, or 256.
+pub fn lowest(m: Map) -> u64
+    ensures { λ r. ⌜ r ≡ lowestZero (m .parts) ⌝ }
+{
+    let first = m.parts[0];
+    if first != u64::MAX {
+        return zero_in(first);
+    }
+    let second = m.parts[1];
+    if second != u64::MAX {
+        return 64 + zero_in(second);
+    }
+    let third = m.parts[2];
+    if third != u64::MAX {
+        return 128 + zero_in(third);
+    }
+    let fourth = m.parts[3];
+    if fourth != u64::MAX {
+        return 192 + zero_in(fourth);
+    }
+    256
+}
+
+// How many bits are one.
+pub fn count(m: Map) -> u64
+    ensures { λ r. ⌜ r ≡ onesOf (m .parts) ⌝ }
+{
+    ones_in(m.parts[0]) + ones_in(m.parts[1]) + ones_in(m.parts[2]) + ones_in(m.parts[3])
+}
+
+// A one at the bit of slot i within its part.
+fn one_at(i: usize) -> u64
+    ensures { λ r. ⌜ r ≡ 2 ^ (i % 64) ⌝ }
+{
+    1u64 << (i % 64)
+}
+
+// The map with k added to the part of a slot.
+fn plus(m: Map, i: usize, k: u64) -> Map
+    ensures { λ r. ⌜ r .parts ≡ plus (m .parts) i k ⌝ }
+{
+    if 256 <= i {
+        return m;
+    }
+    let part = i / 64;
+    let mut next = m;
+    next.parts[part] = std::num::wrapping_add_u64(next.parts[part], k);
+    next
+}
+
+// The map after the request of slot i changed: at most the slot's own bit changes.
+pub fn marked(m: Map, i: usize, before: Request, after: Request) -> Map
+    ensures { λ r. ⌜ r .parts ≡ markedOf (m .parts) i before after ⌝ }
+{
+    let one = one_at(i);
+    if in_use(after) {
+        if in_use(before) {
+            return m;
+        }
+        return plus(m, i, one);
+    }
+    if in_use(before) {
+        return plus(m, i, u64::MAX - one + 1);
+    }
+    m
+}
