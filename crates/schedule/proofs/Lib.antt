@@ -1,1 +1,2 @@
 pub mod Bodies
+pub mod Determined

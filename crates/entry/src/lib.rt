@@ -1,0 +1,48 @@
+// Report entries: 12 bytes for a played record, and whether it sent a verb. It relies on the contract of `visit` alone.
+ghost use mathlib.Core.Path.{_≡_};
+ghost use Rattle.entry.specs.Entry.{verbsOf, putOf};
+use call::Call;
+use visit::Answer;
+use visit::Said;
+
+// One where an accepted step or release sent a verb, else 0.
+pub fn verbs_of(c: Call, a: Answer) -> usize
+    ensures { λ r. ⌜ r ≡ verbsOf c a ⌝ }
+{
+    let said = visit::tell(c, a);
+    if said.number != 0 {
+        return 0;
+    }
+    match c {
+        Call::Open(_, _) => 0,
+        Call::Step(_) => 1,
+        Call::Release(_) => 1,
+        Call::Show(_) => 0,
+    }
+}
+
+// Writes an entry at a place of the report; where it does not fit nothing is written.
+pub fn put(report: &mut [u8], at: usize, d: Said)
+    ensures { λ r. ⌜ now (report .exit) ≡ putOf (now (report .entry)) at d ⌝ }
+{
+    let n = report.len();
+    if n < 12 {
+        return;
+    }
+    if n - 12 < at {
+        return;
+    }
+    let v = d.value;
+    report[at] = d.number;
+    report[at + 1] = d.outcome;
+    report[at + 2] = d.slot;
+    report[at + 3] = 0;
+    report[at + 4] = (v % 256) as u8;
+    report[at + 5] = (v / 256 % 256) as u8;
+    report[at + 6] = (v / 65536 % 256) as u8;
+    report[at + 7] = (v / 16777216 % 256) as u8;
+    report[at + 8] = (v / 4294967296 % 256) as u8;
+    report[at + 9] = (v / 1099511627776 % 256) as u8;
+    report[at + 10] = (v / 281474976710656 % 256) as u8;
+    report[at + 11] = (v / 72057594037927936 % 256) as u8;
+}

@@ -1,0 +1,5 @@
+pub mod Runs
+pub mod Playing
+pub mod TakenUp
+pub mod Examples
+pub mod Determined

@@ -1,0 +1,5 @@
+pub mod Run
+pub mod Halts
+pub mod Comes
+pub mod Promises
+pub mod Examples

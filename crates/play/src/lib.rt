@@ -1,0 +1,108 @@
+// A run: plays the records of a schedule one by one and reports each in 12 bytes. The board is in one local and its map in another, so that
+// no record copies the table. It relies on the contracts of `visit`, `slots`, `schedule` and `entry` alone.
+ghost use mathlib.Core.Path.{_≡_};
+ghost use lib.Dec.{ltb};
+ghost use Rattle.play.specs.Halts.{isEnd, haltedOf, leavesOf};
+ghost use Rattle.play.specs.Comes.{Comes};
+use schedule::Next;
+use slots::Board;
+
+// What a run came to.
+pub struct Ran {
+    pub ending: u8,
+    pub records: usize,
+    pub bytes: usize,
+    pub verbs: usize,
+    pub board: Board,
+}
+
+fn is_end(n: Next) -> bool
+    ensures { λ r. ⌜ r ≡ isEnd n ⌝ }
+{
+    match n {
+        Next::Record(_, _) => false,
+        Next::End => true,
+        Next::Unknown => false,
+        Next::Cut => false,
+    }
+}
+
+// 11 or 12 where the allowance or the report stops the run before what stands at its place, else 0.
+fn halted(n: Next, spent: bool, room: usize) -> u8
+    ensures { λ r. ⌜ r ≡ haltedOf (isEnd n) spent (ltb room 12) ⌝ }
+{
+    if is_end(n) {
+        return 0;
+    }
+    if spent {
+        return 11;
+    }
+    if room < 12 {
+        return 12;
+    }
+    0
+}
+
+// What a run ends with where no record stands.
+fn left_by(n: Next) -> u8
+    ensures { λ r. ⌜ r ≡ leavesOf n ⌝ }
+{
+    match n {
+        Next::Record(_, _) => 0,
+        Next::End => 0,
+        Next::Unknown => 8,
+        Next::Cut => 7,
+    }
+}
+
+// Plays the schedule from a place on, within an allowance of records and the room of the report.
+pub fn run(
+    b: Board,
+    words: &mut [u64],
+    s: &[u8],
+    at: usize,
+    allowance: usize,
+    report: &mut [u8],
+) -> Ran
+    ensures ran { λ r. ⌜ Comes (b .slots) (now (words .entry)) (now (s .entry)) at allowance (now (report .entry)) r (now (words .exit)) (now (report .exit)) ⌝ }
+{
+    let mut cur = b;
+    let mut map = slots::map_of(b);
+    let mut place = at;
+    let mut records: usize = 0;
+    let mut verbs: usize = 0;
+    loop {
+        let next = schedule::next_at(s, place);
+        let room = report.len() - records * 12;
+        let stop = halted(next, records == allowance, room);
+        if stop != 0 {
+            return Ran {
+                ending: stop,
+                records,
+                bytes: place - at,
+                verbs,
+                board: cur,
+            };
+        }
+        let Next::Record(c, after) = next else {
+            return Ran {
+                ending: left_by(next),
+                records,
+                bytes: place - at,
+                verbs,
+                board: cur,
+            };
+        };
+        let i = visit::aim(c, map);
+        let q = cur.slots[i];
+        let d = visit::visit(c, i, q, words);
+        let request = d.request;
+        let answer = d.answer;
+        cur.slots[i] = request;
+        map = slots::marked(map, i, q, request);
+        entry::put(report, records * 12, visit::tell(c, answer));
+        verbs += entry::verbs_of(c, answer);
+        records += 1;
+        place = after;
+    }
+}

@@ -1,0 +1,16 @@
+-- Each public function of `schedule`, and why its contract determines it: the contract equates the outcome with a definition, and two
+-- things that equal a third are equal (`only-one`, the single law). A function that is missing here is a defect.
+-- Assumes nothing.
+use mathlib.Core.Path.{refl}
+use Rattle.word.specs.Determined.{Determined}
+use Rattle.word.proofs.Determined.{only-one}
+use Rattle.schedule.proofs.body.Kinds as body-kinds
+use Rattle.schedule.proofs.body.Reads as body-reads
+use Rattle.schedule.proofs.next_at.Kinds as next-at-kinds
+use Rattle.schedule.proofs.next_at.Reads as next-at-reads
+
+body-determined : Determined 0 body-kinds.ps body-kinds.r body-reads.Post
+body-determined κs a z z′ ws ws′ p q = (only-one p q, refl)
+
+next-at-determined : Determined 1 next-at-kinds.ps next-at-kinds.r next-at-reads.Post
+next-at-determined κs a z z′ ws ws′ p q = (only-one p q, refl)
