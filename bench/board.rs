@@ -1,0 +1,269 @@
+//! The rival: the same rules as one would write them in Rust for speed. The board is changed in place and keeps a map of its slots in use.
+
+const SLOTS: usize = 256;
+const MOST_WORDS: usize = 4_096;
+const ENTRY: usize = 12;
+
+/// Tickets of one kind that a record gives before it must be cleared.
+const CEIL: u16 = 32_768;
+
+#[derive(Clone, Copy, PartialEq, Eq)]
+#[repr(u8)]
+enum Phase {
+    Free,
+    Asking,
+    Waiting,
+    Held,
+    Owing,
+    Clearing,
+}
+
+#[derive(Clone, Copy)]
+#[repr(C)]
+struct Request {
+    record: u16,
+    writer: bool,
+    phase: Phase,
+    x: u16,
+    s: u16,
+    clearing: u64,
+}
+
+const _: () = assert!(size_of::<Request>() == 16);
+
+const FREE: Request = Request {
+    record: 0,
+    writer: false,
+    phase: Phase::Free,
+    x: 0,
+    s: 0,
+    clearing: 0,
+};
+
+/// The four counters of a lock word.
+struct Counters {
+    n_x: u16,
+    n_s: u16,
+    m_x: u16,
+    m_s: u16,
+}
+
+impl Counters {
+    #[inline]
+    fn of(word: u64) -> Self {
+        Counters {
+            n_x: (word >> 48) as u16,
+            n_s: (word >> 32) as u16,
+            m_x: (word >> 16) as u16,
+            m_s: word as u16,
+        }
+    }
+}
+
+/// The word at rest after so many writers and readers.
+fn at_rest(writers: u16, readers: u16) -> u64 {
+    (u64::from(writers) << 16 | u64::from(readers)) * 0x1_0000_0001
+}
+
+/// The numbers of an answer: a refusal, or an outcome with a value.
+struct Answer {
+    number: u8,
+    outcome: u8,
+    value: u64,
+}
+
+#[inline]
+fn refused(number: u8) -> Answer {
+    Answer {
+        number,
+        outcome: 0,
+        value: 0,
+    }
+}
+
+#[inline]
+fn came_to(outcome: u8, value: u64) -> Answer {
+    Answer {
+        number: 0,
+        outcome,
+        value,
+    }
+}
+
+struct Board<'w> {
+    words: &'w mut [u64],
+    slots: [Request; SLOTS],
+    used: [u64; 4],
+}
+
+impl<'w> Board<'w> {
+    fn begin(words: &'w mut [u64]) -> Self {
+        if words.len() <= MOST_WORDS {
+            words.fill(0);
+        }
+        let reach = words.len().min(MOST_WORDS);
+        Board {
+            words: &mut words[..reach],
+            slots: [FREE; SLOTS],
+            used: [0; 4],
+        }
+    }
+
+    #[inline]
+    fn lowest_free(&self) -> Option<usize> {
+        let part = self.used.iter().position(|&bits| bits != u64::MAX)?;
+        Some(part * 64 + self.used[part].trailing_ones() as usize)
+    }
+
+    #[inline]
+    fn free(&mut self, slot: u8) {
+        self.slots[usize::from(slot)] = FREE;
+        self.used[usize::from(slot) / 64] &= !(1 << (slot % 64));
+    }
+
+    /// The slot is 0 where the open is refused.
+    #[inline]
+    fn open(&mut self, record: u16, mode: u8) -> (Answer, u8) {
+        if usize::from(record) >= self.words.len() {
+            return (refused(2), 0);
+        }
+        if mode > 1 {
+            return (refused(3), 0);
+        }
+        let Some(slot) = self.lowest_free() else {
+            return (refused(6), 0);
+        };
+        self.slots[slot] = Request {
+            record,
+            writer: mode == 1,
+            phase: Phase::Asking,
+            ..FREE
+        };
+        self.used[slot / 64] |= 1 << (slot % 64);
+        (came_to(1, 0), slot as u8)
+    }
+
+    #[inline]
+    fn step(&mut self, slot: u8) -> Answer {
+        let request = &mut self.slots[usize::from(slot)];
+        match request.phase {
+            Phase::Free => return refused(4),
+            Phase::Held => return refused(5),
+            _ => {}
+        }
+        let Some(word) = self.words.get_mut(usize::from(request.record)) else {
+            return refused(2);
+        };
+        let before = *word;
+        let ticket = if request.writer { 1 << 16 } else { 1 };
+        match request.phase {
+            Phase::Asking => {
+                *word = before.wrapping_add(ticket);
+                let p = Counters::of(before);
+                if p.m_x >= CEIL || p.m_s >= CEIL {
+                    request.phase = Phase::Owing;
+                    return came_to(4, 0);
+                }
+                request.x = p.m_x;
+                request.s = p.m_s;
+                request.clearing = match request.writer {
+                    true if p.m_x == CEIL - 1 => at_rest(CEIL, p.m_s),
+                    false if p.m_s == CEIL - 1 => at_rest(p.m_x, CEIL),
+                    _ => 0,
+                };
+                self.turn(slot, before)
+            }
+            Phase::Waiting => self.turn(slot, before),
+            Phase::Owing => {
+                *word = before.wrapping_sub(ticket);
+                self.free(slot);
+                came_to(5, 0)
+            }
+            _ if before == request.clearing => {
+                *word = 0;
+                self.free(slot);
+                came_to(8, 0)
+            }
+            _ => came_to(9, 0),
+        }
+    }
+
+    #[inline]
+    fn turn(&mut self, slot: u8, word: u64) -> Answer {
+        let request = &mut self.slots[usize::from(slot)];
+        let v = Counters::of(word);
+        if v.n_x > request.x || request.writer && v.n_s > request.s {
+            self.free(slot);
+            return came_to(11, 0);
+        }
+        if v.n_x == request.x && (!request.writer || v.n_s == request.s) {
+            request.phase = Phase::Held;
+            return came_to(2, 0);
+        }
+        request.phase = Phase::Waiting;
+        let writers = u64::from(request.x - v.n_x);
+        let readers = u64::from(request.s.saturating_sub(v.n_s));
+        came_to(3, writers + readers)
+    }
+
+    #[inline]
+    fn release(&mut self, slot: u8) -> Answer {
+        let request = &mut self.slots[usize::from(slot)];
+        match request.phase {
+            Phase::Free => return refused(4),
+            Phase::Held => {}
+            _ => return refused(5),
+        }
+        let Some(word) = self.words.get_mut(usize::from(request.record)) else {
+            return refused(2);
+        };
+        *word = word.wrapping_add(if request.writer { 1 << 48 } else { 1 << 32 });
+        if request.clearing == 0 {
+            self.free(slot);
+            return came_to(6, 0);
+        }
+        request.phase = Phase::Clearing;
+        came_to(7, 0)
+    }
+
+    #[inline]
+    fn show(&self, record: u16) -> Answer {
+        match self.words.get(usize::from(record)) {
+            Some(&word) => came_to(10, word),
+            None => refused(2),
+        }
+    }
+}
+
+/// Plays a schedule on a fresh board until it ends, a record is no record, or the report has no room. Gives the number of verbs.
+pub fn run(words: &mut [u64], schedule: &[u8], report: &mut [u8]) -> u64 {
+    let mut board = Board::begin(words);
+    let mut rest = schedule;
+    let mut verbs = 0;
+    for entry in report.chunks_exact_mut(ENTRY) {
+        let (answer, slot, after) = match *rest {
+            [1, low, high, mode, ref after @ ..] => {
+                let (answer, slot) = board.open(u16::from_le_bytes([low, high]), mode);
+                (answer, slot, after)
+            }
+            [2, slot, ref after @ ..] => {
+                let answer = board.step(slot);
+                verbs += u64::from(answer.number == 0);
+                (answer, slot, after)
+            }
+            [3, slot, ref after @ ..] => {
+                let answer = board.release(slot);
+                verbs += u64::from(answer.number == 0);
+                (answer, slot, after)
+            }
+            [4, low, high, ref after @ ..] => {
+                (board.show(u16::from_le_bytes([low, high])), 0, after)
+            }
+            _ => break,
+        };
+        entry[..4].copy_from_slice(&[answer.number, answer.outcome, slot, 0]);
+        entry[4..].copy_from_slice(&answer.value.to_le_bytes());
+        rest = after;
+    }
+    verbs
+}
