@@ -29,6 +29,7 @@ use Rattle.visit.specs.Visit.{Visited, visited, aimOf, withinBoard, visitOf, se
 use Rattle.visit.specs.declared.Answer.{Answer}
 use Rattle.visit.specs.declared.Answer.the-variants.{Refused, Opened}
 use Rattle.board.specs.Leaves.{stored}
+use Rattle.board.specs.Promises.{VisitIsPlayed}
 use Rattle.board.specs.Board.{State, Done, refused, sent, opened, stepped, released, shown, slotAt, played}
 
 -- a refused visit writes back what stood there
@@ -88,11 +89,7 @@ unfolding shown showVisit
 show-stored s r true e = rw e (back s 0 _)
 show-stored s r false e = rw e (back s 0 (Refused 2))
 
-pub visit-is-played :
-    (c : Call) (s : State) →
-    length (s .slots) ≡ SLOTS →
-    played c s ≡
-    stored s (aimOf c (mapOf (s .slots))) (visitOf c (aimOf c (mapOf (s .slots))) (slotAt s (aimOf c (mapOf (s .slots)))) (s .words))
+pub visit-is-played : VisitIsPlayed
 unfolding aimOf stepped released
 visit-is-played (Open r m) s long =
     let k = lowestFree (s .slots) in

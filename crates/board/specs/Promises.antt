@@ -4,10 +4,13 @@ use mathlib.Core.Path.{_≡_}
 use mathlib.Core.Bool.{true, false}
 use lib.ListN.{length}
 use Rattle.slots.specs.Slots.{SLOTS, inUse}
+use Rattle.slots.specs.Map.{mapOf}
 use Rattle.call.specs.declared.Call.{Call}
 use Rattle.call.specs.declared.Call.the-variants.{Open}
+use Rattle.visit.specs.Visit.{aimOf, visitOf}
 use Rattle.visit.specs.declared.Answer.the-variants.{Refused, Opened}
 use Rattle.board.specs.Board.{State, stateOf, slotAt, begun, played}
+use Rattle.board.specs.Leaves.{stored}
 
 -- A refused call leaves the whole state, a refused begin too.
 abbrev pub RefusedKeeps : Type 0
@@ -23,3 +26,11 @@ OpenedIsLowest =
     length (s .slots) ≡ SLOTS →
     played (Open r m) s .answer ≡ Opened k →
     (inUse (slotAt s k) ≡ false) × ((j : ℕ) → j < k → inUse (slotAt s j) ≡ true)
+
+-- A call is the visit of the slot that it aims at, on a board whose map is that of its 256 slots.
+abbrev pub VisitIsPlayed : Type 0
+VisitIsPlayed =
+    (c : Call) (s : State) →
+    length (s .slots) ≡ SLOTS →
+    played c s ≡
+    stored s (aimOf c (mapOf (s .slots))) (visitOf c (aimOf c (mapOf (s .slots))) (slotAt s (aimOf c (mapOf (s .slots)))) (s .words))
