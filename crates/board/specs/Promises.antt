@@ -3,12 +3,14 @@ use Prim.Native.Nat.{ℕ, _<_}
 use mathlib.Core.Path.{_≡_}
 use mathlib.Core.Bool.{true, false}
 use lib.ListN.{length}
+use Rattle.agent.specs.Answers.{numbersOf}
+use Rattle.agent.specs.declared.Answer as agent
 use Rattle.slots.specs.Slots.{SLOTS, inUse}
 use Rattle.slots.specs.Map.{mapOf}
 use Rattle.call.specs.declared.Call.{Call}
 use Rattle.call.specs.declared.Call.the-variants.{Open}
 use Rattle.visit.specs.Visit.{aimOf, visitOf}
-use Rattle.visit.specs.declared.Answer.the-variants.{Refused, Opened}
+use Rattle.visit.specs.declared.Answer.the-variants.{Refused, Opened, Told}
 use Rattle.board.specs.Board.{State, stateOf, slotAt, begun, played}
 use Rattle.board.specs.Leaves.{stored}
 
@@ -34,3 +36,7 @@ VisitIsPlayed =
     length (s .slots) ≡ SLOTS →
     played c s ≡
     stored s (aimOf c (mapOf (s .slots))) (visitOf c (aimOf c (mapOf (s .slots))) (slotAt s (aimOf c (mapOf (s .slots)))) (s .words))
+
+-- What the agent tells through the board is accepted: its number is 0, never 5.
+abbrev pub ToldIsAccepted : Type 0
+ToldIsAccepted = (c : Call) (s : State) (a : agent.Answer) → played c s .answer ≡ Told a → numbersOf a .number ≡ 0
