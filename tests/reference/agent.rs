@@ -224,6 +224,21 @@ mod tests {
         (outcome, request)
     }
 
+    fn grants((outcome, request): (Outcome, Request)) {
+        assert_eq!((outcome, request.phase()), (Outcome::Granted, Phase::Held));
+    }
+
+    fn waits_for_one((outcome, request): (Outcome, Request)) {
+        assert_eq!(
+            (outcome, request.phase()),
+            (Outcome::Waiting { ahead: 1 }, Phase::Waiting)
+        );
+    }
+
+    fn passes(seen: (Outcome, Request)) {
+        assert_eq!(seen, (Outcome::Passed, Request::FREE));
+    }
+
     fn ticket(x: u16, s: u16) -> Ticket {
         Ticket {
             x: Exclusive(x),
@@ -283,28 +298,16 @@ mod tests {
 
     #[test]
     fn p6_p7_p8_writer_reads() {
-        let (outcome, request) = look(WRITER, Counters::new(3, 4, 6, 6));
-        assert_eq!((outcome, request.phase()), (Outcome::Granted, Phase::Held));
-        let (outcome, request) = look(WRITER, Counters::new(2, 4, 6, 6));
-        assert_eq!(
-            (outcome, request.phase()),
-            (Outcome::Waiting { ahead: 1 }, Phase::Waiting)
-        );
-        let (outcome, request) = look(WRITER, Counters::new(3, 5, 6, 6));
-        assert_eq!((outcome, request), (Outcome::Passed, Request::FREE));
+        grants(look(WRITER, Counters::new(3, 4, 6, 6)));
+        waits_for_one(look(WRITER, Counters::new(2, 4, 6, 6)));
+        passes(look(WRITER, Counters::new(3, 5, 6, 6)));
     }
 
     #[test]
     fn p9_p10_p11_reader_reads() {
-        let (outcome, request) = look(READER, Counters::new(3, 9, 5, 9));
-        assert_eq!((outcome, request.phase()), (Outcome::Granted, Phase::Held));
-        let (outcome, request) = look(READER, Counters::new(2, 9, 4, 9));
-        assert_eq!(
-            (outcome, request.phase()),
-            (Outcome::Waiting { ahead: 1 }, Phase::Waiting)
-        );
-        let (outcome, request) = look(READER, Counters::new(4, 4, 5, 9));
-        assert_eq!((outcome, request), (Outcome::Passed, Request::FREE));
+        grants(look(READER, Counters::new(3, 9, 5, 9)));
+        waits_for_one(look(READER, Counters::new(2, 9, 4, 9)));
+        passes(look(READER, Counters::new(4, 4, 5, 9)));
     }
 
     #[test]

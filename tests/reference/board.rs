@@ -3,6 +3,7 @@
 
 use crate::agent::{Phase, Request};
 use crate::answer::{Answer, Outcome, Refusal};
+use crate::word::Verb;
 
 pub const SLOTS: usize = 256;
 
@@ -55,17 +56,13 @@ impl Board {
 
     pub fn step(&mut self, slot: u64) -> Answer {
         let at = self.slot_in_use(slot)?;
-        let verb = self.slots[at].step_verb().ok_or(Refusal::WrongPhase)?;
-        let record = u64::from(self.slots[at].record);
-        let returned = verb.send(self.word(record)?);
+        let returned = self.send(at, self.slots[at].step_verb())?;
         self.slots[at].step_take(returned)
     }
 
     pub fn release(&mut self, slot: u64) -> Answer {
         let at = self.slot_in_use(slot)?;
-        let verb = self.slots[at].release_verb().ok_or(Refusal::WrongPhase)?;
-        let record = u64::from(self.slots[at].record);
-        let returned = verb.send(self.word(record)?);
+        let returned = self.send(at, self.slots[at].release_verb())?;
         self.slots[at].release_take(returned)
     }
 
@@ -91,6 +88,13 @@ impl Board {
             Phase::Free => Err(Refusal::SlotFree),
             _ => Ok(at),
         }
+    }
+
+    /// Sends a slot's verb to the word of its record. A phase without a verb is refused before the record is looked at.
+    fn send(&mut self, at: usize, verb: Option<Verb>) -> Result<u64, Refusal> {
+        let verb = verb.ok_or(Refusal::WrongPhase)?;
+        let record = u64::from(self.slots[at].record);
+        Ok(verb.send(self.word(record)?))
     }
 
     /// The word of a record. Words past the 4,096th are out of reach.
