@@ -213,10 +213,7 @@ mod tests {
     /// A waiting request with ticket (3, 4) reads the given word.
     fn look(mode: u8, counters: Counters) -> (Outcome, Request) {
         let mut request = Request::opened(9, mode);
-        request.ticket = Ticket {
-            x: Exclusive(3),
-            s: Shared(4),
-        };
+        request.ticket = ticket(3, 4);
         request.phase = Phase::Waiting as u8;
         let mut word = counters.word();
         let outcome = step(&mut request, &mut word);
