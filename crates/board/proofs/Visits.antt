@@ -1,36 +1,33 @@
 -- Why a visit of the aimed slot is the call: a refused call writes back what stood in the slot, an open aims at the lowest free slot, and where
 -- none is free it aims at one in use.
 -- Assumes nothing.
-use Prim.Native.Nat.{ℕ, zero, suc, _<_, _≤_, _%_}
-use mathlib.Core.Path.{_≡_, refl, ap, sym, _∙_}
-use mathlib.Core.Bool.{Bool, true, false, not}
-use mathlib.Core.Logic.{_⊎_, inl, inr, ⊎-elim}
+use Prim.Native.Nat.{ℕ, _<_, _%_}
+use mathlib.Core.Path.{_≡_, refl, ap, sym}
+use mathlib.Core.Bool.{Bool, true, false}
 use mathlib.Core.List.{List}
-use native.Mathlib.Nat.{eq-or-lt-of-le}
 use native.Mathlib.Omega.{arith}
-use borrow.Author.Tests.{le-leb, lt-leb, leb-true, leb-false}
+use borrow.Author.Tests.{leb-true, leb-false}
 use lib.Dec.{eqb, ltb, leb}
-use lib.ListN.{length, getD, set}
+use lib.ListN.{length, getD}
 use lib.Seq.{set-getD}
 use Rattle.word.specs.Choice.{if_then_else_}
-use Rattle.request.specs.Request.{freeRequest, openedRequest}
+use Rattle.request.specs.Request.{freeRequest}
 use Rattle.request.specs.declared.Request.{Request}
 use Rattle.agent.specs.Life.{stepSends, releaseSends, stepTakes, releaseTakes}
 use Rattle.agent.specs.declared.Verb.{Verb}
 use Rattle.agent.specs.declared.Taken.{Taken}
 use Rattle.slots.specs.Slots.{SLOTS, inUse, lowestFree}
-use Rattle.slots.specs.Map.{mapOf, lowestZero}
-use Rattle.slots.proofs.Bits.{lowest-le}
+use Rattle.slots.specs.Map.{lowestZero}
 use Rattle.slots.proofs.Promises.{lowest-is-free, lower-are-used, map-finds-lowest}
 use Rattle.call.specs.declared.Call.{Call}
 use Rattle.call.specs.declared.Call.the-variants.{Open, Step, Release, Show}
 use Rattle.visit.specs.Records.{isRecord, refusalOf}
-use Rattle.visit.specs.Visit.{Visited, visited, aimOf, withinBoard, visitOf, sentVisit, openVisit, showVisit, namedVisit}
+use Rattle.visit.specs.Visit.{visited, aimOf, withinBoard, sentVisit, openVisit, showVisit, namedVisit}
 use Rattle.visit.specs.declared.Answer.{Answer}
-use Rattle.visit.specs.declared.Answer.the-variants.{Refused, Opened}
+use Rattle.visit.specs.declared.Answer.the-variants.{Refused}
 use Rattle.board.specs.Leaves.{stored}
 use Rattle.board.specs.Promises.{VisitIsPlayed}
-use Rattle.board.specs.Board.{State, Done, refused, sent, opened, stepped, released, shown, slotAt, played}
+use Rattle.board.specs.Board.{State, refused, sent, opened, stepped, released, shown, slotAt}
 
 -- a refused visit writes back what stood there
 back : (s : State) (i : ℕ) (a : Answer) → record { slots = s .slots; words = s .words; answer = a } ≡ stored s i (visited (slotAt s i) (s .words) a)
