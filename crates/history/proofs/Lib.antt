@@ -1,0 +1,11 @@
+pub mod Counts
+pub mod Order
+pub mod Turns
+pub mod Words
+pub mod Tied
+pub mod Others
+pub mod Sent
+pub mod Moves
+pub mod Kept
+pub mod Demand
+pub mod Stories

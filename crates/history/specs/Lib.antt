@@ -1,0 +1,5 @@
+pub mod Tickets
+pub mod Ledger
+pub mod History
+pub mod Promises
+pub mod Stories
