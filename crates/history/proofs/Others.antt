@@ -18,7 +18,7 @@ use Rattle.request.specs.declared.Request.{Request}
 use Rattle.request.specs.declared.Phase.{Phase}
 use Rattle.request.specs.declared.Phase.the-variants.{Waiting, Held, Clearing}
 use Rattle.history.specs.Tickets.{Given, none, ticketAt, givenOf, EarlierReleased, AllReleased}
-use Rattle.history.specs.Ledger.{Stage, Seat, releasedAt}
+use Rattle.history.specs.Ledger.{Stage, Seat, asReleased, releasedAt}
 use Rattle.history.specs.Ledger.Stage.{Nobody, Asks, Waits, Holds, Owes, Clears}
 use Rattle.history.proofs.Counts.{clash}
 use Rattle.history.proofs.Order.{given-set}
@@ -97,10 +97,10 @@ module _ (l : List Given) (p : ℕ) (inside : p < length l) where
       after-it m =
           let at : ticketAt (take x l) p ≡ ticketAt l p = getD-take x l p none m in
           let long : length (take x l) ≡ x = length-take-le x l h in
-          rw (take-set-lt x l p (record { kind = ticketAt l p .kind; slot = ticketAt l p .slot; released = true }) m, sym at) (given-set (take x l) p k (omega arith))
+          rw (take-set-lt x l p (asReleased (ticketAt l p)) m, sym at) (given-set (take x l) p k (omega arith))
 
       before-it : x ≤ p → givenOf k (take x (releasedAt l p)) ≡ givenOf k (take x l)
-      before-it m = rw (take-set-le x l p (record { kind = ticketAt l p .kind; slot = ticketAt l p .slot; released = true }) m) refl
+      before-it m = rw (take-set-le x l p (asReleased (ticketAt l p)) m) refl
 
   -- kind and slot stay, and released stays released
   pub kind-at : (x : ℕ) → ticketAt (releasedAt l p) x .kind ≡ ticketAt l x .kind
@@ -113,7 +113,7 @@ module _ (l : List Given) (p : ℕ) (inside : p < length l) where
   other-at x d = getD-set-other l p x _ none d
 
   pub this-at : ticketAt (releasedAt l p) p .released ≡ true
-  this-at = ap (λ (t : Given). t .released) (getD-set-same l p (record { kind = ticketAt l p .kind; slot = ticketAt l p .slot; released = true }) none inside)
+  this-at = ap (λ (t : Given). t .released) (getD-set-same l p (asReleased (ticketAt l p)) none inside)
 
   stays-released : (x : ℕ) → ticketAt l x .released ≡ true → ticketAt (releasedAt l p) x .released ≡ true
   stays-released x r = ⊎-elim (λ e. rw e this-at) (λ e. rw (other-at x e) r) (same-or-not x p)

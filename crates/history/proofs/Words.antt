@@ -99,8 +99,41 @@ module _ (w : ℕ) (fits : w < 2 ^ 64) (c : Counters) (e : splitOf w ≡ c) wher
   pub lowered : (k : Counter) → 0 < heldIn k c → splitOf (addOf w (backOf k)) ≡ changed k (λ n. n - 1) c
   lowered k h = back-lowers k w fits (omega (arith, held k)) ∙ ap (changed k (λ n. n - 1)) e
 
--- a ticket more
+-- The three verbs, for either kind: one more ticket, one less, one more release, told by what each kind counts before and after.
+abbrev pub perKind : (Mode → ℕ) → (Mode → ℕ) → Counters
+perKind n m = four (n Writer) (n Reader) (m Writer) (m Reader)
+
+pub same-counts : {n n′ m m′ : Mode → ℕ} → ((j : Mode) → n j ≡ n′ j) → ((j : Mode) → m j ≡ m′ j) → perKind n m ≡ perKind n′ m′
+same-counts e f = four-same (e Writer) (e Reader) (f Writer) (f Reader)
+
+module _ (w : ℕ) (fits : w < 2 ^ 64) (n m : Mode → ℕ) (e : splitOf w ≡ perKind n m) where
+  ticket-more :
+      (k : Mode) → m k < 65535 → (n′ m′ : Mode → ℕ) → ((j : Mode) → n j ≡ n′ j) → ((j : Mode) → m j + one (sameKind j k) ≡ m′ j) →
+      splitOf (addOf w (stepOf (ticketCounter k))) ≡ perKind n′ m′
+  ticket-more Reader h n′ m′ a b = raised w fits (perKind n m) e MS h ∙ four-same (a Writer) (a Reader) (omega (arith, b Writer)) (omega (arith, b Reader))
+  ticket-more Writer h n′ m′ a b = raised w fits (perKind n m) e MX h ∙ four-same (a Writer) (a Reader) (omega (arith, b Writer)) (omega (arith, b Reader))
+
+  ticket-less :
+      (k : Mode) → (n′ m′ : Mode → ℕ) → ((j : Mode) → n j ≡ n′ j) → ((j : Mode) → m′ j + one (sameKind j k) ≡ m j) →
+      splitOf (addOf w (backOf (ticketCounter k))) ≡ perKind n′ m′
+  ticket-less Reader n′ m′ a b = lowered w fits (perKind n m) e MS (omega (arith, b Reader)) ∙ four-same (a Writer) (a Reader) (omega (arith, b Writer)) (omega (arith, b Reader))
+  ticket-less Writer n′ m′ a b = lowered w fits (perKind n m) e MX (omega (arith, b Writer)) ∙ four-same (a Writer) (a Reader) (omega (arith, b Writer)) (omega (arith, b Reader))
+
+  release-more :
+      (k : Mode) → n k < 65535 → (n′ m′ : Mode → ℕ) → ((j : Mode) → n j + one (sameKind j k) ≡ n′ j) → ((j : Mode) → m j ≡ m′ j) →
+      splitOf (addOf w (stepOf (releaseCounter k))) ≡ perKind n′ m′
+  release-more Reader h n′ m′ a b = raised w fits (perKind n m) e NS h ∙ four-same (omega (arith, a Writer)) (omega (arith, a Reader)) (b Writer) (b Reader)
+  release-more Writer h n′ m′ a b = raised w fits (perKind n m) e NX h ∙ four-same (omega (arith, a Writer)) (omega (arith, a Reader)) (b Writer) (b Reader)
+
 module _ {l : List Given} {o : Mode → ℕ} {w : ℕ} (a : Agrees l o w) where
+  -- what each kind counts
+  abbrev releases : Mode → ℕ
+  releases k = releasedOf k l
+
+  abbrev tickets : Mode → ℕ
+  tickets k = givenOf k l + o k
+
+  -- a ticket more
   module _ (t : Given) (open-now : t .released ≡ false) (low : topped l ≡ false) where
     pub released-more : (k : Mode) → releasedOf k (l ++ t ∷ []) ≡ releasedOf k l
     released-more k = omega (arith, counted-append (isReleased k) l (t ∷ []), counted-one (isReleased k) t, released-one k t open-now)
@@ -108,20 +141,14 @@ module _ {l : List Given} {o : Mode → ℕ} {w : ℕ} (a : Agrees l o w) where
     pub given-more : (k : Mode) → givenOf k (l ++ t ∷ []) ≡ givenOf k l + one (sameKind k (t .kind))
     given-more k = omega (arith, counted-append (λ (u : Given). sameKind k (u .kind)) l (t ∷ []), counted-one (λ (u : Given). sameKind k (u .kind)) t)
 
-    drawn-word : (k : Mode) → t .kind ≡ k → splitOf (addOf w (stepOf (ticketCounter k))) ≡ countersOf (l ++ t ∷ []) o
-    drawn-word Reader e =
-        raised w (a .fits) (countersOf l o) (a .word) MS (omega (arith, not-topped l low Reader, a .owing low Reader)) ∙
-        four-same (sym (released-more Writer)) (sym (released-more Reader)) (omega (arith, given-more Writer, ap one (ap (sameKind Writer) e))) (omega (arith, given-more Reader, ap one (ap (sameKind Reader) e)))
-    drawn-word Writer e =
-        raised w (a .fits) (countersOf l o) (a .word) MX (omega (arith, not-topped l low Writer, a .owing low Writer)) ∙
-        four-same (sym (released-more Writer)) (sym (released-more Reader)) (omega (arith, given-more Writer, ap one (ap (sameKind Writer) e))) (omega (arith, given-more Reader, ap one (ap (sameKind Reader) e)))
-
     pub agrees-drawn : (o′ : Mode → ℕ) → ((j : Mode) → o′ j ≡ o j) → Agrees (l ++ t ∷ []) o′ (addOf w (stepOf (ticketCounter (t .kind))))
     agrees-drawn o′ same =
         record {
           order = append-ordered l t open-now (a .order);
           fits = mod-fits w (stepOf (ticketCounter (t .kind)));
-          word = drawn-word (t .kind) refl ∙ four-same refl refl (omega (arith, same Writer)) (omega (arith, same Reader));
+          word =
+              ticket-more w (a .fits) releases tickets (a .word) (t .kind) (omega (arith, not-topped l low (t .kind), a .owing low (t .kind)))
+              (λ k. releasedOf k (l ++ t ∷ [])) (λ k. givenOf k (l ++ t ∷ []) + o′ k) (λ j. sym (released-more j)) (λ j. omega (arith, given-more j, same j));
           cap = λ k. omega (arith, given-more k, not-topped l low k, one-le (sameKind k (t .kind)));
           owing = λ e k. omega (arith, same k, a .owing low k);
         }
@@ -132,79 +159,50 @@ module _ {l : List Given} {o : Mode → ℕ} {w : ℕ} (a : Agrees l o w) where
       record {
         order = a .order;
         fits = a .fits;
-        word = a .word ∙ four-same refl refl (omega (arith, same Writer)) (omega (arith, same Reader));
+        word = a .word ∙ same-counts {n = releases} {n′ = releases} {m = tickets} {m′ = λ k. givenOf k l + o′ k} (λ j. refl) (λ j. omega (arith, same j));
         cap = a .cap;
         owing = λ e k. omega (arith, same k, a .owing e k);
       }
 
   -- one more owed, by an ask that was turned away
-  owed-word : (k : Mode) → o k ≤ 255 → (o′ : Mode → ℕ) → ((j : Mode) → o′ j ≡ o j + one (sameKind j k)) → splitOf (addOf w (stepOf (ticketCounter k))) ≡ countersOf l o′
-  owed-word Reader few o′ more =
-      raised w (a .fits) (countersOf l o) (a .word) MS (omega (arith, a .cap Reader)) ∙
-      four-same refl refl (omega (arith, more Writer)) (omega (arith, more Reader))
-  owed-word Writer few o′ more =
-      raised w (a .fits) (countersOf l o) (a .word) MX (omega (arith, a .cap Writer)) ∙
-      four-same refl refl (omega (arith, more Writer)) (omega (arith, more Reader))
-
   pub agrees-owed : (k : Mode) → o k ≤ 255 → topped l ≡ true → (o′ : Mode → ℕ) → ((j : Mode) → o′ j ≡ o j + one (sameKind j k)) → Agrees l o′ (addOf w (stepOf (ticketCounter k)))
   agrees-owed k few top o′ more =
       record {
         order = a .order;
         fits = mod-fits w (stepOf (ticketCounter k));
-        word = owed-word k few o′ more;
+        word = ticket-more w (a .fits) releases tickets (a .word) k (omega (arith, a .cap k)) releases (λ j. givenOf j l + o′ j) (λ j. refl) (λ j. omega (arith, more j));
         cap = a .cap;
         owing = λ e. clash (topped l) top e;
       }
 
   -- one less owed, by a withdrawal
-  back-word : (k : Mode) (o′ : Mode → ℕ) → ((j : Mode) → o′ j + one (sameKind j k) ≡ o j) → splitOf (addOf w (backOf (ticketCounter k))) ≡ countersOf l o′
-  back-word Reader o′ less =
-      lowered w (a .fits) (countersOf l o) (a .word) MS (omega (arith, less Reader)) ∙
-      four-same refl refl (omega (arith, less Writer)) (omega (arith, less Reader))
-  back-word Writer o′ less =
-      lowered w (a .fits) (countersOf l o) (a .word) MX (omega (arith, less Writer)) ∙
-      four-same refl refl (omega (arith, less Writer)) (omega (arith, less Reader))
-
   pub agrees-back : (k : Mode) (o′ : Mode → ℕ) → ((j : Mode) → o′ j + one (sameKind j k) ≡ o j) → Agrees l o′ (addOf w (backOf (ticketCounter k)))
   agrees-back k o′ less =
       record {
         order = a .order;
         fits = mod-fits w (backOf (ticketCounter k));
-        word = back-word k o′ less;
+        word = ticket-less w (a .fits) releases tickets (a .word) k releases (λ j. givenOf j l + o′ j) (λ j. refl) (λ j. omega (arith, less j));
         cap = a .cap;
         owing = λ e j. omega (arith, less j, a .owing e j);
       }
 
   -- a ticket released
   module _ (p : ℕ) (here : p < length l) (open-now : ticketAt l p .released ≡ false) where
-    few-released : (k : Mode) → releasedOf k l ≤ CEIL
-    few-released k = omega (arith, all-split k l, a .cap k)
-
     pub topped-set : topped (releasedAt l p) ≡ topped l
     topped-set = rw (given-set l p Writer here, given-set l p Reader here) refl
 
-    let-go-word : (k : Mode) → ticketAt l p .kind ≡ k → splitOf (addOf w (stepOf (releaseCounter k))) ≡ countersOf (releasedAt l p) o
-    let-go-word Reader e =
-        raised w (a .fits) (countersOf l o) (a .word) NS (omega (arith, few-released Reader)) ∙
-        four-same
-        (omega (arith, released-set l p Writer here open-now, ap one (ap (sameKind Writer) e)))
-        (omega (arith, released-set l p Reader here open-now, ap one (ap (sameKind Reader) e)))
-        (omega (arith, given-set l p Writer here)) (omega (arith, given-set l p Reader here))
-    let-go-word Writer e =
-        raised w (a .fits) (countersOf l o) (a .word) NX (omega (arith, few-released Writer)) ∙
-        four-same
-        (omega (arith, released-set l p Writer here open-now, ap one (ap (sameKind Writer) e)))
-        (omega (arith, released-set l p Reader here open-now, ap one (ap (sameKind Reader) e)))
-        (omega (arith, given-set l p Writer here)) (omega (arith, given-set l p Reader here))
-
     pub agrees-released : EarlierReleased l (ticketAt l p .kind) p → (o′ : Mode → ℕ) → ((j : Mode) → o′ j ≡ o j) → Agrees (releasedAt l p) o′ (addOf w (stepOf (releaseCounter (ticketAt l p .kind))))
     agrees-released turn o′ same =
+        let k = ticketAt l p .kind in
         record {
           order = release-ordered l p here open-now turn (a .order);
-          fits = mod-fits w (stepOf (releaseCounter (ticketAt l p .kind)));
-          word = let-go-word (ticketAt l p .kind) refl ∙ four-same refl refl (omega (arith, same Writer)) (omega (arith, same Reader));
-          cap = λ k. omega (arith, given-set l p k here, a .cap k);
-          owing = λ e k. omega (arith, same k, a .owing (sym topped-set ∙ e) k);
+          fits = mod-fits w (stepOf (releaseCounter k));
+          word =
+              release-more w (a .fits) releases tickets (a .word) k (omega (arith, all-split k l, a .cap k))
+              (λ j. releasedOf j (releasedAt l p)) (λ j. givenOf j (releasedAt l p) + o′ j)
+              (λ j. sym (released-set l p j here open-now)) (λ j. omega (arith, given-set l p j here, same j));
+          cap = λ j. omega (arith, given-set l p j here, a .cap j);
+          owing = λ e j. omega (arith, same j, a .owing (sym topped-set ∙ e) j);
         }
 
   -- full is told exactly where the ceiling of a kind is reached

@@ -76,8 +76,11 @@ given Owes i g L = seated L i (staged g (L .seats i))
 given Clears i g L = seated L i (staged g (L .seats i))
 
 -- The ticket at a place is released.
+abbrev pub asReleased : Given → Given
+asReleased t = record { kind = t .kind; slot = t .slot; released = true }
+
 abbrev pub releasedAt : List Given → ℕ → List Given
-releasedAt l p = set l p (record { kind = ticketAt l p .kind; slot = ticketAt l p .slot; released = true })
+releasedAt l p = set l p (asReleased (ticketAt l p))
 
 abbrev pub letGo : ℕ → Seat → Ledger → Ledger
 letGo i t L = seated (ticketsNow L (L .seats i .about) (releasedAt (mine L i) (L .seats i .place))) i t
