@@ -74,13 +74,13 @@ isCleared tells.Passed = false
 
 module _ {n : ℕ} {s : State} {L : Ledger} (T : Tied n s L) where
   -- a slot at a stage is one of the 256
-  in-board : (i : ℕ) (g : Stage) → L .seats i .stage ≡ g → isNobody g ≡ false → i < SLOTS
+  pub in-board : (i : ℕ) (g : Stage) → L .seats i .stage ≡ g → isNobody g ≡ false → i < SLOTS
   in-board i g e f = ⊎-elim (λ h. clash (isNobody g) (sym (ap isNobody e) ∙ ap isNobody (T .beyond i (leb-true SLOTS i h))) f) (λ h. leb-false SLOTS i h) (true-or-false (leb SLOTS i))
 
-  lent-to : (i : ℕ) (g : Stage) → L .seats i .stage ≡ g → isNobody g ≡ false → L .seats i .about < n
+  pub lent-to : (i : ℕ) (g : Stage) → L .seats i .stage ≡ g → isNobody g ≡ false → L .seats i .about < n
   lent-to i g e f = lent-at T i (in-board i g e f) g e f
 
-  facts-of : (i : ℕ) (g : Stage) → L .seats i .stage ≡ g → isNobody g ≡ false → Facts g (L .seats i) (mine L i) i
+  pub facts-of : (i : ℕ) (g : Stage) → L .seats i .stage ≡ g → isNobody g ≡ false → Facts g (L .seats i) (mine L i) i
   facts-of i g e f = facts-at T i (in-board i g e f) (lent-to i g e f) g e
 
   writer-conflicts : (k : Mode) → conflicts Writer k ≡ true
@@ -169,8 +169,8 @@ module _ {n : ℕ} {s : State} {L : Ledger} (T : Tied n s L) where
         (λ h. asks-full i e (⊎-elim (λ w. or-topped (mine L i) Writer (omega arith)) (λ r. or-topped (mine L i) Reader (omega arith)) h)),
       )
 
-  small : CountersStaySmall s
-  small r k h = omega (arith, counters-small (T .agrees r (omega (arith, T .words-long))) (few-owed T r (omega (arith, T .words-long))) k)
+  small : CountersStaySmall n s
+  small r k h = omega (arith, counters-small (T .agrees r h) (few-owed T r h) k)
 
   -- what a step is never told, at a stage
   module _ (f : Tells → Bool) (granted : f tells.Granted ≡ false) (waiting : (m : ℕ) → f (tells.Waiting m) ≡ false) (full-told : f tells.Full ≡ false) (withdrawn : f tells.Withdrawn ≡ false) where
@@ -308,7 +308,7 @@ module _ {n : ℕ} {s : State} {L : Ledger} (T : Tied n s L) where
           by Owes f true q = absurd (none-owed j f (eqb-true (L .seats j .about) (L .seats i .about) q))
           by Owes f false q = rw (f, q) refl
 
-  demand : Demand L s (λ c. played c s .answer)
+  pub demand : Demand n L s (λ c. played c s .answer)
   demand =
       record {
         alone = alone;

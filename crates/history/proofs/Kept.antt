@@ -24,7 +24,7 @@ use Rattle.call.specs.declared.Call.the-variants.{Open, Step, Release, Show}
 use Rattle.visit.specs.Records.{RECORDS, isRecord}
 use Rattle.board.specs.Board.{State, Done, stateOf, slotAt, begun, opened, stepped, released, shown}
 use Rattle.history.specs.Tickets.{Given, ticketAt}
-use Rattle.history.specs.Ledger.{Stage, Seat, Ledger, free, blank, put, seated, staged, mine, drawn, given, kindOf, told, begunWith}
+use Rattle.history.specs.Ledger.{Stage, Seat, Ledger, free, blank, put, seated, staged, mine, drawn, grantedOrWaits, kindOf, notedCall, begunWith}
 use Rattle.history.specs.Ledger.Stage.{Nobody, Asks, Waits, Holds, Owes, Clears}
 use Rattle.history.specs.History.{Move, fresh, moved, after, events, noted, readOff, ledgerAfter, boardAfter}
 use Rattle.history.specs.History.Move.{Begin, Do}
@@ -49,7 +49,7 @@ module _ {n : ℕ} {s : State} {L : Ledger} (T : Tied n s L) (i : ℕ) (here : i
   lent-at g e f = ⊎-elim (λ h. clash (isNobody (L .seats i .stage)) h (ap isNobody e ∙ f)) (λ h. h) (T .sits i here .lent)
 
   abbrev StepKeeps : Done → Type 0
-  StepKeeps d = Tied n (stateOf d) (told (Step i) (d .answer) L)
+  StepKeeps d = Tied n (stateOf d) (notedCall (Step i) (d .answer) L)
 
   step-kept-at : (g : Stage) → L .seats i .stage ≡ g → StepKeeps (stepped i s)
   step-kept-at Nobody e = subst StepKeeps (sym (step-nobody s i here (keeps-at Nobody e))) T
@@ -71,12 +71,12 @@ module _ {n : ℕ} {s : State} {L : Ledger} (T : Tied n s L) (i : ℕ) (here : i
       subst StepKeeps (sym (step-asks-turn s i here (L .seats i) (mine L i) inside small a low at))
       (either StepKeeps (eqb (aheadNow (L .seats i .kind) longer (length (mine L i))) 0)
       (λ z.
-      subst (λ (g : Stage). Tied n (stateOf (went s i (L .seats i .about) (withTicket Held (at-last Holds) longer) (addOf (wordNow s L i) (stepOf (ticketCounter (L .seats i .kind)))) tells.Granted)) (given g i Holds L)) (sym e)
+      subst (λ (g : Stage). Tied n (stateOf (went s i (L .seats i .about) (withTicket Held (at-last Holds) longer) (addOf (wordNow s L i) (stepOf (ticketCounter (L .seats i .kind)))) tells.Granted)) (grantedOrWaits g i Holds L)) (sym e)
       (tied-went T i here lent (drawn i Holds L) _ _ tells.Granted
       (drawn-moved T i here lent e low Holds refl refl refl
       (drawn-owns T i here lent e low Holds refl refl refl, ahead-earlier (L .seats i .kind) longer (length (mine L i)) (omega (arith, drawn-owns T i here lent e low Holds refl refl refl .inside)) (eqb-true (aheadNow (L .seats i .kind) longer (length (mine L i))) 0 z)))))
       (λ z.
-      subst (λ (g : Stage). Tied n (stateOf (went s i (L .seats i .about) (withTicket Waiting (at-last Waits) longer) (addOf (wordNow s L i) (stepOf (ticketCounter (L .seats i .kind)))) tells.Full)) (given g i Waits L)) (sym e)
+      subst (λ (g : Stage). Tied n (stateOf (went s i (L .seats i .about) (withTicket Waiting (at-last Waits) longer) (addOf (wordNow s L i) (stepOf (ticketCounter (L .seats i .kind)))) tells.Full)) (grantedOrWaits g i Waits L)) (sym e)
       (tied-went T i here lent (drawn i Waits L) _ _ tells.Full
       (drawn-moved T i here lent e low Waits refl refl refl (drawn-owns T i here lent e low Waits refl refl refl))))))
       (true-or-false (topped (mine L i)))
@@ -89,11 +89,11 @@ module _ {n : ℕ} {s : State} {L : Ledger} (T : Tied n s L) (i : ℕ) (here : i
       subst StepKeeps (sym (step-waits s i here (L .seats i) (mine L i) (omega (arith, T .words-long)) (omega (arith, T .most)) (T .agrees (L .seats i .about) lent) (keeps-at Waits e) own))
       (either StepKeeps (eqb (aheadNow (L .seats i .kind) (mine L i) (L .seats i .place)) 0)
       (λ z.
-      subst (λ (g : Stage). Tied n (stateOf (went s i (L .seats i .about) (withTicket Held (L .seats i) (mine L i)) (wordNow s L i) tells.Granted)) (given g i Holds L)) (sym e)
+      subst (λ (g : Stage). Tied n (stateOf (went s i (L .seats i .about) (withTicket Held (L .seats i) (mine L i)) (wordNow s L i) tells.Granted)) (grantedOrWaits g i Holds L)) (sym e)
       (tied-went T i here lent _ _ _ tells.Granted
       (granted-moved T i here lent e (ahead-earlier (L .seats i .kind) (mine L i) (L .seats i .place) (omega (arith, own .inside)) (eqb-true (aheadNow (L .seats i .kind) (mine L i) (L .seats i .place)) 0 z)))))
       (λ z.
-      subst (λ (g : Stage). Tied n (stateOf (went s i (L .seats i .about) (withTicket Waiting (L .seats i) (mine L i)) (wordNow s L i) tells.Granted)) (given g i Waits L)) (sym e)
+      subst (λ (g : Stage). Tied n (stateOf (went s i (L .seats i .about) (withTicket Waiting (L .seats i) (mine L i)) (wordNow s L i) tells.Granted)) (grantedOrWaits g i Waits L)) (sym e)
       (tied-went T i here lent _ _ _ tells.Granted (waits-moved T i here lent e))))
   step-kept-at Clears e =
       let lent = lent-at Clears e refl in
@@ -111,7 +111,7 @@ module _ {n : ℕ} {s : State} {L : Ledger} (T : Tied n s L) (i : ℕ) (here : i
 
   -- the same of a release
   abbrev ReleaseKeeps : Done → Type 0
-  ReleaseKeeps d = Tied n (stateOf d) (told (Release i) (d .answer) L)
+  ReleaseKeeps d = Tied n (stateOf d) (notedCall (Release i) (d .answer) L)
 
   release-kept-at : (g : Stage) → L .seats i .stage ≡ g → ReleaseKeeps (released i s)
   release-kept-at Nobody e = subst ReleaseKeeps (sym (release-nobody s i here (keeps-at Nobody e))) T
@@ -128,19 +128,19 @@ module _ {n : ℕ} {s : State} {L : Ledger} (T : Tied n s L) (i : ℕ) (here : i
 
 module _ {n : ℕ} {s : State} {L : Ledger} (T : Tied n s L) where
   -- a step and a release of any slot
-  step-kept : (i : ℕ) → Tied n (stateOf (stepped i s)) (told (Step i) (stepped i s .answer) L)
+  step-kept : (i : ℕ) → Tied n (stateOf (stepped i s)) (notedCall (Step i) (stepped i s .answer) L)
   unfolding stepped
   step-kept i = by (leb SLOTS i) refl
     where
-      by : (x : Bool) → leb SLOTS i ≡ x → Tied n (stateOf (stepped i s)) (told (Step i) (stepped i s .answer) L)
+      by : (x : Bool) → leb SLOTS i ≡ x → Tied n (stateOf (stepped i s)) (notedCall (Step i) (stepped i s .answer) L)
       by true e = rw e T
       by false e = step-kept-at T i (leb-false SLOTS i e) (L .seats i .stage) refl
 
-  release-kept : (i : ℕ) → Tied n (stateOf (released i s)) (told (Release i) (released i s .answer) L)
+  release-kept : (i : ℕ) → Tied n (stateOf (released i s)) (notedCall (Release i) (released i s .answer) L)
   unfolding released
   release-kept i = by (leb SLOTS i) refl
     where
-      by : (x : Bool) → leb SLOTS i ≡ x → Tied n (stateOf (released i s)) (told (Release i) (released i s .answer) L)
+      by : (x : Bool) → leb SLOTS i ≡ x → Tied n (stateOf (released i s)) (notedCall (Release i) (released i s .answer) L)
       by true e = rw e T
       by false e = release-kept-at T i (leb-false SLOTS i e) (L .seats i .stage) refl
 
@@ -212,13 +212,13 @@ module _ {n : ℕ} {s : State} {L : Ledger} (T : Tied n s L) where
   and-first true y e = refl
   and-first false y e = e
 
-  open-kept : (r m : ℕ) → Tied n (stateOf (opened r m s)) (told (Open r m) (opened r m s .answer) L)
+  open-kept : (r m : ℕ) → Tied n (stateOf (opened r m s)) (notedCall (Open r m) (opened r m s .answer) L)
   unfolding opened
   open-kept r m = by (isRecord r (s .words)) (ltb 1 m) (leb SLOTS (lowestFree (s .slots))) refl refl refl
     where
       by :
           (x y f : Bool) → isRecord r (s .words) ≡ x → ltb 1 m ≡ y → leb SLOTS (lowestFree (s .slots)) ≡ f →
-          Tied n (stateOf (opened r m s)) (told (Open r m) (opened r m s .answer) L)
+          Tied n (stateOf (opened r m s)) (notedCall (Open r m) (opened r m s .answer) L)
       by false y f a b c = rw a T
       by true true f a b c = rw (a, b) T
       by true false true a b c = rw (a, b, c) T

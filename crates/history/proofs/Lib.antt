@@ -9,3 +9,5 @@ pub mod Moves
 pub mod Kept
 pub mod Demand
 pub mod Stories
+pub mod Seats
+pub mod Empty

@@ -21,8 +21,8 @@ use Rattle.agent.specs.Life.{ticketCounter, releaseCounter}
 use Rattle.agent.specs.declared.Answer.{Answer as Tells}
 use Rattle.slots.specs.Slots.{SLOTS}
 use Rattle.board.specs.Board.{State, stateOf}
-use Rattle.history.specs.Tickets.{Given, none, ticketAt, sameKind, EarlierReleased}
-use Rattle.history.specs.Ledger.{Stage, Seat, Ledger, free, put, seated, staged, mine, drawn, letGo, ticketsNow, releasedAt}
+use Rattle.history.specs.Tickets.{Given, noTicket, ticketAt, sameKind, EarlierReleased}
+use Rattle.history.specs.Ledger.{Stage, Seat, Ledger, free, put, seated, staged, mine, drawn, ticketReleased, ticketsNow, releasedAt}
 use Rattle.history.specs.Ledger.Stage.{Asks, Waits, Holds, Owes, Clears}
 use Rattle.history.proofs.Counts.{one, clash, counted-nil, below-put}
 use Rattle.history.proofs.Words.{Agrees, topped, clearingFor, wordAtRest, agrees-same, agrees-drawn, agrees-owed, agrees-back, agrees-released, agrees-empty, topped-set, at-rest, rest-is-some}
@@ -226,7 +226,7 @@ module _ {n : ℕ} {s : State} {L : Ledger} (T : Tied n s L) (i : ℕ) (here : i
     seat-then = record { stage = g; about = L .seats i .about; kind = L .seats i .kind; place = length (mine L i) }
 
     mine-at : ticketAt longer (length (mine L i)) ≡ fresh-one
-    mine-at = getD-append-seam (mine L i) fresh-one [] none
+    mine-at = getD-append-seam (mine L i) fresh-one [] noTicket
 
     long : length longer ≡ suc (length (mine L i))
     long = omega (arith, length-append (mine L i) (fresh-one ∷ []))
@@ -245,7 +245,7 @@ module _ {n : ℕ} {s : State} {L : Ledger} (T : Tied n s L) (i : ℕ) (here : i
 
         older : p < length (mine L i) → Owner (put (L .seats) i seat-then) longer (L .seats i .about) p
         older q =
-            let same : ticketAt longer p ≡ ticketAt (mine L i) p = List·getD-append (mine L i) (fresh-one ∷ []) none p q in
+            let same : ticketAt longer p ≡ ticketAt (mine L i) p = List·getD-append (mine L i) (fresh-one ∷ []) noTicket p q in
             let own = T .owner (L .seats i .about) p lent q (rw same at o) in
             let kept = owner-kept (put (L .seats) i seat-then) (put-other (L .seats) i seat-then) (λ h. clash (hasTicket (L .seats i .stage)) h (ap hasTicket e)) p own in
             record {
@@ -335,7 +335,7 @@ module _ {n : ℕ} {s : State} {L : Ledger} (T : Tied n s L) (i : ℕ) (here : i
     pub let-go-moved :
         OnlyOn (L .seats i .about) t → (q : Request) → Sits n t (put (L .tickets) (L .seats i .about) let-go-list (t .about)) i q → isOwing (t .stage) ≡ false →
         (suc (L .seats i .place) ≡ length (mine L i) → topped (mine L i) ≡ true → (t .about ≡ L .seats i .about) × (t .place ≡ L .seats i .place) × (mayClear (t .stage) ≡ true)) →
-        Moved n L (letGo i t L) i q (addOf (wordNow s L i) (stepOf (releaseCounter (L .seats i .kind))))
+        Moved n L (ticketReleased i t L) i q (addOf (wordNow s L i) (stepOf (releaseCounter (L .seats i .kind))))
     let-go-moved only q sits unowed keep =
         let at = put-same (L .seats) i t in
         let list = put-same (L .tickets) (L .seats i .about) let-go-list in
@@ -358,13 +358,13 @@ module _ {n : ℕ} {s : State} {L : Ledger} (T : Tied n s L) (i : ℕ) (here : i
             (owed (put (L .seats) i t) (L .seats i .about)) (owed-same t (ap isOwing e) unowed))
 
     -- released for good: it has not the last ticket
-    pub released-moved : t ≡ free → clearingFor (mine L i) (L .seats i .place) ≡ 0 → Moved n L (letGo i t L) i freeRequest (addOf (wordNow s L i) (stepOf (releaseCounter (L .seats i .kind))))
+    pub released-moved : t ≡ free → clearingFor (mine L i) (L .seats i .place) ≡ 0 → Moved n L (ticketReleased i t L) i freeRequest (addOf (wordNow s L i) (stepOf (releaseCounter (L .seats i .kind))))
     released-moved f none-kept =
         let-go-moved (inl (ap (λ (u : Seat). isNobody (u .stage)) f)) freeRequest (rw f (record { keeps = refl; lent = inl refl; facts = tt })) (ap (λ (u : Seat). isOwing (u .stage)) f)
         (λ final top. absurd (rest-is-some (mine L i) top (sym (clearing-last (mine L i) (L .seats i .place) final top) ∙ none-kept)))
 
     -- or clearing is due
-    pub due-moved : t ≡ staged Clears (L .seats i) → (clearingFor (mine L i) (L .seats i .place) ≡ 0 → ⊥) → Moved n L (letGo i t L) i (withTicket Clearing (L .seats i) (mine L i)) (addOf (wordNow s L i) (stepOf (releaseCounter (L .seats i .kind))))
+    pub due-moved : t ≡ staged Clears (L .seats i) → (clearingFor (mine L i) (L .seats i .place) ≡ 0 → ⊥) → Moved n L (ticketReleased i t L) i (withTicket Clearing (L .seats i) (mine L i)) (addOf (wordNow s L i) (stepOf (releaseCounter (L .seats i .kind))))
     due-moved f kept =
         let c = clearing-closes (mine L i) (L .seats i .place) kept in
         let closing : Closes (staged Clears (L .seats i)) (mine L i) i = record { top = c .0; final = c .1; slot = held .slot } in

@@ -28,7 +28,7 @@ use Rattle.slots.specs.Slots.{SLOTS, inUse}
 use Rattle.visit.specs.Records.{isNothing, refusalOf}
 use Rattle.visit.specs.declared.Answer.the-variants.{Told}
 use Rattle.board.specs.Board.{State, Done, slotAt, sent, stepped, released, refused}
-use Rattle.history.specs.Tickets.{Given, none, givenOf}
+use Rattle.history.specs.Tickets.{Given, noTicket, givenOf}
 use Rattle.history.specs.Ledger.{Stage, Seat}
 use Rattle.history.specs.Ledger.Stage.{Asks, Waits, Holds, Owes, Clears}
 use Rattle.history.proofs.Order.{append-ordered}
@@ -252,7 +252,7 @@ module _ (s : State) (i : ℕ) (here : i < SLOTS) where
 
         law : turnOf (t .kind) (ticketOf longer (length l)) (splitOf (getD (s .words) (t .about) 0)) ≡ turnAt (aheadNow (t .kind) longer (length l)) askingAhead
         law =
-            let mine = getD-append-seam l fresh-ticket [] none in
+            let mine = getD-append-seam l fresh-ticket [] noTicket in
             turn-law (t .kind) longer (length l) (splitOf (getD (s .words) (t .about) 0)) (append-ordered l fresh-ticket refl (a .order))
             (omega (arith, length-append l (fresh-ticket ∷ []))) (ap (λ (g : Given). g .released) mine) (ap (λ (g : Given). g .kind) mine)
             (ap (λ (c : Counters). c .nx .0) (a .word) ∙ sym (released-more a fresh-ticket refl low Writer))

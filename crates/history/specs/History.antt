@@ -6,7 +6,7 @@ use Rattle.slots.specs.Slots.{freshSlots}
 use Rattle.call.specs.declared.Call.{Call}
 use Rattle.visit.specs.declared.Answer.{Answer}
 use Rattle.board.specs.Board.{State, Done, stateOf, begun, played}
-use Rattle.history.specs.Ledger.{Ledger, blank, told, begunWith}
+use Rattle.history.specs.Ledger.{Ledger, blank, notedCall, begunWith}
 
 -- A call, or begin.
 pub data Move : Type 0 where
@@ -38,7 +38,7 @@ events s (m ∷ ms) = record { move = m; answer = moved m s .answer } ∷ events
 
 abbrev pub noted : Move → Answer → Ledger → Ledger
 noted Begin a L = begunWith a L
-noted (Do c) a L = told c a L
+noted (Do c) a L = notedCall c a L
 
 -- The ledger is read off calls and answers alone.
 unfoldable pub readOff : Ledger → List Event → Ledger

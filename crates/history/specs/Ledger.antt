@@ -31,7 +31,8 @@ pub record Seat : Type 0 where
   pub kind : Mode
   pub place : ℕ
 
--- For each record its tickets since it began or was last cleared, oldest first; for each slot its seat.
+-- For each record its tickets since it began or was last cleared, oldest first; for each slot its seat. The tickets from before a clearing can be left
+-- out: `ClearedOnly` says that each of them had been released.
 pub record Ledger : Type 0 where
   pub tickets : ℕ → List Given
   pub seats : ℕ → Seat
@@ -66,14 +67,14 @@ drawn i g L =
     seated (ticketsNow L (L .seats i .about) (mine L i ++ record { kind = L .seats i .kind; slot = i; released = false } ∷ []))
     i (record { stage = g; about = L .seats i .about; kind = L .seats i .kind; place = length (mine L i) })
 
--- Granted or waiting: a slot that asks is given a ticket; one that waits already has it.
-abbrev pub given : Stage → ℕ → Stage → Ledger → Ledger
-given Asks i g L = drawn i g L
-given Nobody i g L = seated L i (staged g (L .seats i))
-given Waits i g L = seated L i (staged g (L .seats i))
-given Holds i g L = seated L i (staged g (L .seats i))
-given Owes i g L = seated L i (staged g (L .seats i))
-given Clears i g L = seated L i (staged g (L .seats i))
+-- Granted or waiting: a slot that asks is given a ticket; one that waits already has it. None else is told so (`ToldByStage`).
+abbrev pub grantedOrWaits : Stage → ℕ → Stage → Ledger → Ledger
+grantedOrWaits Asks i g L = drawn i g L
+grantedOrWaits Waits i g L = seated L i (staged g (L .seats i))
+grantedOrWaits Nobody i g L = L
+grantedOrWaits Holds i g L = L
+grantedOrWaits Owes i g L = L
+grantedOrWaits Clears i g L = L
 
 -- The ticket at a place is released.
 abbrev pub asReleased : Given → Given
@@ -82,13 +83,13 @@ asReleased t = record { kind = t .kind; slot = t .slot; released = true }
 abbrev pub releasedAt : List Given → ℕ → List Given
 releasedAt l p = set l p (asReleased (ticketAt l p))
 
-abbrev pub letGo : ℕ → Seat → Ledger → Ledger
-letGo i t L = seated (ticketsNow L (L .seats i .about) (releasedAt (mine L i) (L .seats i .place))) i t
+abbrev pub ticketReleased : ℕ → Seat → Ledger → Ledger
+ticketReleased i t L = seated (ticketsNow L (L .seats i .about) (releasedAt (mine L i) (L .seats i .place))) i t
 
 -- What a step's answer tells of its slot.
 abbrev pub stepTold : ℕ → Tells → Ledger → Ledger
-stepTold i Granted L = given (L .seats i .stage) i Holds L
-stepTold i (Waiting n) L = given (L .seats i .stage) i Waits L
+stepTold i Granted L = grantedOrWaits (L .seats i .stage) i Holds L
+stepTold i (Waiting n) L = grantedOrWaits (L .seats i .stage) i Waits L
 stepTold i Full L = seated L i (staged Owes (L .seats i))
 stepTold i Withdrawn L = seated L i free
 stepTold i Cleared L = seated (ticketsNow L (L .seats i .about) []) i free
@@ -100,8 +101,8 @@ stepTold i ClearingDue L = L
 
 -- What a release's answer tells of its slot.
 abbrev pub releaseTold : ℕ → Tells → Ledger → Ledger
-releaseTold i Released L = letGo i free L
-releaseTold i ClearingDue L = letGo i (staged Clears (L .seats i)) L
+releaseTold i Released L = ticketReleased i free L
+releaseTold i ClearingDue L = ticketReleased i (staged Clears (L .seats i)) L
 releaseTold i Granted L = L
 releaseTold i (Waiting n) L = L
 releaseTold i Full L = L
@@ -116,23 +117,23 @@ abbrev pub kindOf : ℕ → Mode
 kindOf m = if eqb m 0 then Reader else Writer
 
 -- What a call and its answer tell. A refusal tells nothing.
-abbrev pub told : Call → Answer → Ledger → Ledger
-told (Open r m) (Opened k) L = seated L k (record { stage = Asks; about = r; kind = kindOf m; place = 0 })
-told (Open r m) (Refused n) L = L
-told (Open r m) Begun L = L
-told (Open r m) (Told a) L = L
-told (Open r m) (Shown w) L = L
-told (Step i) (Told a) L = stepTold i a L
-told (Step i) (Refused n) L = L
-told (Step i) Begun L = L
-told (Step i) (Opened k) L = L
-told (Step i) (Shown w) L = L
-told (Release i) (Told a) L = releaseTold i a L
-told (Release i) (Refused n) L = L
-told (Release i) Begun L = L
-told (Release i) (Opened k) L = L
-told (Release i) (Shown w) L = L
-told (Show r) a L = L
+abbrev pub notedCall : Call → Answer → Ledger → Ledger
+notedCall (Open r m) (Opened k) L = seated L k (record { stage = Asks; about = r; kind = kindOf m; place = 0 })
+notedCall (Open r m) (Refused n) L = L
+notedCall (Open r m) Begun L = L
+notedCall (Open r m) (Told a) L = L
+notedCall (Open r m) (Shown w) L = L
+notedCall (Step i) (Told a) L = stepTold i a L
+notedCall (Step i) (Refused n) L = L
+notedCall (Step i) Begun L = L
+notedCall (Step i) (Opened k) L = L
+notedCall (Step i) (Shown w) L = L
+notedCall (Release i) (Told a) L = releaseTold i a L
+notedCall (Release i) (Refused n) L = L
+notedCall (Release i) Begun L = L
+notedCall (Release i) (Opened k) L = L
+notedCall (Release i) (Shown w) L = L
+notedCall (Show r) a L = L
 
 -- An accepted begin starts a new ledger.
 abbrev pub begunWith : Answer → Ledger → Ledger

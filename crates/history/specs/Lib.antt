@@ -3,3 +3,5 @@ pub mod Ledger
 pub mod History
 pub mod Promises
 pub mod Stories
+pub mod Seats
+pub mod Empty

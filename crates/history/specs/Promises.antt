@@ -28,7 +28,7 @@ WriterHoldsAlone L =
     L .seats j .about ≡ L .seats i .about →
     i ≡ j
 
--- A step that draws a ticket, which is every step of a slot that asks but one answered full, is granted exactly when every earlier conflicting
+-- A step that draws a ticket, which is a step of a slot that asks that is not answered full, is granted exactly when every earlier conflicting
 -- ticket on that record has been released,
 abbrev pub DrawnIsGrantedExactly : Ledger → (Call → Answer) → Type 0
 DrawnIsGrantedExactly L says =
@@ -48,7 +48,7 @@ WaitingIsGrantedExactly L says =
 abbrev pub NonePassed : (Call → Answer) → Type 0
 NonePassed says = (c : Call) → says c ≡ Told Passed → ⊥
 
--- A request that asks is turned away exactly when 32,768 tickets of one kind had been given.
+-- A request that asks is turned away exactly when 32,768 tickets of one kind had been given on the record since it began or was last cleared.
 abbrev pub FullExactly : Ledger → (Call → Answer) → Type 0
 FullExactly L says =
     (i : ℕ) →
@@ -66,7 +66,7 @@ ClearedOnly L says =
     says (Step i) ≡ Told Cleared →
     (L .seats i .stage ≡ Clears) × AllReleased (mine L i) × NoneOwed L (L .seats i .about)
 
--- and then always.
+-- and, which is not asked for, then always.
 abbrev pub ClearedThen : Ledger → (Call → Answer) → Type 0
 ClearedThen L says =
     (i : ℕ) →
@@ -75,12 +75,13 @@ ClearedThen L says =
     NoneOwed L (L .seats i .about) →
     says (Step i) ≡ Told Cleared
 
--- No counter of any word exceeds 33,023.
-abbrev pub CountersStaySmall : State → Type 0
-CountersStaySmall s = (r : ℕ) (k : Counter) → r < length (s .words) → heldBy k (getD (s .words) r 0) ≤ 33023
+-- No counter of any of the n words exceeds 33,023.
+abbrev pub CountersStaySmall : ℕ → State → Type 0
+CountersStaySmall n s = (r : ℕ) (k : Counter) → r < n → heldBy k (getD (s .words) r 0) ≤ 33023
 
--- The six, of a ledger, a board, and what it answers next.
-pub record Demand (L : Ledger) (s : State) (says : Call → Answer) : Type 0 where
+-- The six parts of demand 3, of n words, a ledger, a board, and what it answers next. The second part is two fields, and one that is not asked for stands beside
+-- the fifth.
+pub record Demand (n : ℕ) (L : Ledger) (s : State) (says : Call → Answer) : Type 0 where
   pub alone : WriterHoldsAlone L
   pub drawn-granted : DrawnIsGrantedExactly L says
   pub waiting-granted : WaitingIsGrantedExactly L says
@@ -88,8 +89,8 @@ pub record Demand (L : Ledger) (s : State) (says : Call → Answer) : Type 0 whe
   pub full : FullExactly L says
   pub cleared-only : ClearedOnly L says
   pub cleared-then : ClearedThen L says
-  pub small : CountersStaySmall s
+  pub small : CountersStaySmall n s
 
 -- From a fresh board of n words, over every sequence of calls.
 abbrev pub Demand3 : Type 0
-Demand3 = (n : ℕ) → 1 ≤ n → n ≤ 4096 → (ms : List Move) → Demand (ledgerAfter n ms) (boardAfter n ms) (answerAfter n ms)
+Demand3 = (n : ℕ) → 1 ≤ n → n ≤ 4096 → (ms : List Move) → Demand n (ledgerAfter n ms) (boardAfter n ms) (answerAfter n ms)

@@ -22,11 +22,11 @@ conflicts Writer Reader = true
 conflicts Writer Writer = true
 
 -- The ticket at a place. Past the last there is none; this one stands for it.
-abbrev pub none : Given
-none = record { kind = Reader; slot = 0; released = true }
+abbrev pub noTicket : Given
+noTicket = record { kind = Reader; slot = 0; released = true }
 
 abbrev pub ticketAt : List Given → ℕ → Given
-ticketAt l i = getD l i none
+ticketAt l i = getD l i noTicket
 
 abbrev pub sameKind : Mode → Mode → Bool
 sameKind Reader Reader = true

@@ -23,7 +23,7 @@ use Rattle.play.specs.declared.Ran.{Ran}
 use Rattle.history.specs.History.{Move, fresh, after}
 use Rattle.history.specs.History.Move.{Do}
 use Rattle.history.proofs.Demand.{demand-3}
-use Rattle.reports.specs.Reports.{Runs, none, more, entriesFrom}
+use Rattle.reports.specs.Reports.{Runs, noRun, oneMore, entriesFrom, callThen, callsAt}
 use Rattle.reports.specs.Promises.{asMoves, callAt, ReportsAreOfHistories}
 
 entry-long : (d : Said) → length (entryOf d) ≡ ENTRY
@@ -70,90 +70,90 @@ entries-both s (c ∷ cs) ds =
     sym (append-assoc (entryOf (saidOf c (played c s .answer))) (entriesFrom (stateOf (played c s)) cs) (entriesFrom (after (stateOf (played c s)) (asMoves cs)) ds))
 
 -- a run from a state plays some calls
-record Plays (s : State) (w : Whole) : Type 0 where
+record Plays (bytes : List ℕ) (at : ℕ) (s : State) (w : Whole) : Type 0 where
   calls : List Call
+  read : calls ≡ callsAt (w .records) bytes at
   count : w .records ≡ length calls
   board : stateAfter w ≡ after s (asMoves calls)
   entries : w .entries ≡ entriesFrom s calls
 
-plays-none : (h at : ℕ) (s : State) → Plays s (ended h at s)
-unfolding after entriesFrom
-plays-none h at s = record { calls = []; count = refl; board = refl; entries = refl }
+plays-none : (bytes : List ℕ) (h at : ℕ) (s : State) → Plays bytes at s (ended h at s)
+unfolding after entriesFrom callsAt
+plays-none bytes h at s = record { calls = []; read = refl; count = refl; board = refl; entries = refl }
 
-plays-one : (c : Call) (s : State) (w : Whole) → Plays (stateOf (played c s)) w → Plays s (followed c (played c s .answer) w)
-unfolding after entriesFrom
-plays-one c s w p =
+plays-one : (bytes : List ℕ) (at next : ℕ) (c : Call) (s : State) (w : Whole) → nextOf bytes at ≡ Record c next → Plays bytes next (stateOf (played c s)) w → Plays bytes at s (followed c (played c s .answer) w)
+unfolding after entriesFrom callsAt
+plays-one bytes at next c s w e p =
     record {
       calls = c ∷ p .calls;
+      read = rw e (ap (λ (l : List Call). c ∷ l) (p .read));
       count = ap suc (p .count);
       board = p .board;
       entries = ap (λ (l : List ℕ). entryOf (saidOf c (played c s .answer)) ++ l) (p .entries);
     }
 
-by-next : (n : Next) (short : Bool) (at : ℕ) (s : State) (rest : ℕ → State → Whole) → ((next : ℕ) (t : State) → Plays t (rest next t)) → Plays s (goesOn n short at s rest)
-by-next End short at s rest i = plays-none 0 at s
-by-next Unknown true at s rest i = plays-none 12 at s
-by-next Unknown false at s rest i = plays-none 8 at s
-by-next Cut true at s rest i = plays-none 12 at s
-by-next Cut false at s rest i = plays-none 7 at s
-by-next (Record c next) true at s rest i = plays-none 12 at s
-by-next (Record c next) false at s rest i = plays-one c s (rest next (stateOf (played c s))) (i next (stateOf (played c s)))
+by-next : (bytes : List ℕ) (n : Next) (short : Bool) (at : ℕ) (s : State) (rest : ℕ → State → Whole) → nextOf bytes at ≡ n → ((next : ℕ) (t : State) → Plays bytes next t (rest next t)) → Plays bytes at s (goesOn n short at s rest)
+by-next b End short at s rest e i = plays-none b 0 at s
+by-next b Unknown true at s rest e i = plays-none b 12 at s
+by-next b Unknown false at s rest e i = plays-none b 8 at s
+by-next b Cut true at s rest e i = plays-none b 12 at s
+by-next b Cut false at s rest e i = plays-none b 7 at s
+by-next b (Record c next) true at s rest e i = plays-none b 12 at s
+by-next b (Record c next) false at s rest e i = plays-one b at next c s (rest next (stateOf (played c s))) e (i next (stateOf (played c s)))
 
-by-spent : (n : Next) (at : ℕ) (s : State) → Plays s (spent n at s)
-by-spent End at s = plays-none 0 at s
-by-spent (Record c next) at s = plays-none 11 at s
-by-spent Unknown at s = plays-none 11 at s
-by-spent Cut at s = plays-none 11 at s
+by-spent : (bytes : List ℕ) (n : Next) (at : ℕ) (s : State) → Plays bytes at s (spent n at s)
+by-spent b End at s = plays-none b 0 at s
+by-spent b (Record c next) at s = plays-none b 11 at s
+by-spent b Unknown at s = plays-none b 11 at s
+by-spent b Cut at s = plays-none b 11 at s
 
-run-plays : (a room : ℕ) (bytes : List ℕ) (at : ℕ) (s : State) → Plays s (runOf a room bytes at s)
+run-plays : (a room : ℕ) (bytes : List ℕ) (at : ℕ) (s : State) → Plays bytes at s (runOf a room bytes at s)
 unfolding runOf
-run-plays zero room bytes at s = by-spent (nextOf bytes at) at s
-run-plays (suc a) room bytes at s = by-next (nextOf bytes at) (ltb room ENTRY) at s _ (λ next t. run-plays a (room - ENTRY) bytes next t)
+run-plays zero room bytes at s = by-spent bytes (nextOf bytes at) at s
+run-plays (suc a) room bytes at s = by-next bytes (nextOf bytes at) (ltb room ENTRY) at s _ refl (λ next t. run-plays a (room - ENTRY) bytes next t)
 
 -- what the contract says of a run
 abbrev boardOf : Ran → List ℕ → State
 boardOf r words = record { slots = r .board .slots; words = words }
 
-record Goes (s : State) (t : State) (entries : List ℕ) : Type 0 where
-  calls : List Call
+record Goes (s : State) (t : State) (calls : List Call) (entries : List ℕ) : Type 0 where
   board : t ≡ after s (asMoves calls)
   reported : entries ≡ entriesFrom s calls
 
 same-board : {a b : List _} {v w : List ℕ} → a ≡ b → v ≡ w → _≡_ {A = State} (record { slots = a; words = v }) (record { slots = b; words = w })
 same-board p q = cc
 
-goes : (s : State) (bytes : List ℕ) (at allowance : ℕ) (report : List ℕ) (r : Ran) (words′ report′ : List ℕ) → Comes (s .slots) (s .words) bytes at allowance report r words′ report′ → Goes s (boardOf r words′) (take (ENTRY * r .records) report′)
+goes : (s : State) (bytes : List ℕ) (at allowance : ℕ) (report : List ℕ) (r : Ran) (words′ report′ : List ℕ) → Comes (s .slots) (s .words) bytes at allowance report r words′ report′ → Goes s (boardOf r words′) (callsAt (r .records) bytes at) (take (ENTRY * r .records) report′)
 goes s bytes at allowance report r words′ report′ c =
     let w = runOf allowance (length report) bytes at s in
     let p = run-plays allowance (length report) bytes at s in
     let long : length (w .entries) ≡ ENTRY * r .records = ap length (p .entries) ∙ entries-long s (p .calls) ∙ ap (λ (n : ℕ). ENTRY * n) (sym (p .count) ∙ sym (c .records)) in
+    let these : p .calls ≡ callsAt (r .records) bytes at = p .read ∙ ap (λ (k : ℕ). callsAt k bytes at) (sym (c .records)) in
     record {
-      calls = p .calls;
-      board = same-board (c .slots-after) (c .words-after) ∙ p .board;
-      reported = ap (take (ENTRY * r .records)) (c .report-after) ∙ take-at (w .entries) (drop (length (w .entries)) report) (ENTRY * r .records) long ∙ p .entries;
+      board = same-board (c .slots-after) (c .words-after) ∙ p .board ∙ ap (λ (l : List Call). after s (asMoves l)) these;
+      reported = ap (take (ENTRY * r .records)) (c .report-after) ∙ take-at (w .entries) (drop (length (w .entries)) report) (ENTRY * r .records) long ∙ p .entries ∙ ap (entriesFrom s) these;
     }
 
 -- and so of one after the other
 both-joined : {a b c d : List ℕ} → a ≡ c → b ≡ d → a ++ b ≡ c ++ d
 both-joined p q = cc
 
-both-go : {s t u : State} {e f : List ℕ} → Goes s t e → Goes t u f → Goes s u (e ++ f)
-both-go {s} {t} p q =
-    let moves : asMoves (p .calls ++ q .calls) ≡ asMoves (p .calls) ++ asMoves (q .calls) = map-append (λ (c : Call). Do c) (p .calls) (q .calls) in
-    let there : after s (asMoves (p .calls ++ q .calls)) ≡ after t (asMoves (q .calls)) =
-    ap (after s) moves ∙ after-both s (asMoves (p .calls)) (asMoves (q .calls)) ∙ ap (λ (x : State). after x (asMoves (q .calls))) (sym (p .board)) in
+both-go : {s t u : State} {cs ds : List Call} {e f : List ℕ} → Goes s t cs e → Goes t u ds f → Goes s u (cs ++ ds) (e ++ f)
+both-go {s} {t} {u} {cs} {ds} p q =
+    let moves : asMoves (cs ++ ds) ≡ asMoves cs ++ asMoves ds = map-append (λ (c : Call). Do c) cs ds in
+    let there : after s (asMoves (cs ++ ds)) ≡ after t (asMoves ds) =
+    ap (after s) moves ∙ after-both s (asMoves cs) (asMoves ds) ∙ ap (λ (x : State). after x (asMoves ds)) (sym (p .board)) in
     record {
-      calls = p .calls ++ q .calls;
       board = q .board ∙ sym there;
-      reported = both-joined (p .reported) (q .reported ∙ ap (λ (x : State). entriesFrom x (q .calls)) (p .board)) ∙ sym (entries-both s (p .calls) (q .calls));
+      reported = both-joined (p .reported) (q .reported ∙ ap (λ (x : State). entriesFrom x ds) (p .board)) ∙ sym (entries-both s cs ds);
     }
 
-all-go : {n : ℕ} {s : State} {entries : List ℕ} → Runs n s entries → Goes (fresh n) s entries
+all-go : {n : ℕ} {s : State} {calls : List Call} {entries : List ℕ} → Runs n s calls entries → Goes (fresh n) s calls entries
 unfolding after entriesFrom
-all-go none = record { calls = []; board = refl; reported = refl }
-all-go (more {s = s} before bytes at allowance report r words′ report′ c) = both-go (all-go before) (goes s bytes at allowance report r words′ report′ c)
+all-go noRun = record { board = refl; reported = refl }
+all-go (oneMore {s = s} before bytes at allowance report r words′ report′ c) = both-go (all-go before) (goes s bytes at allowance report r words′ report′ c)
 
 pub reports-are-of-histories : ReportsAreOfHistories
-reports-are-of-histories n some most s entries runs =
+reports-are-of-histories n some most s calls entries runs =
     let g = all-go runs in
-    record { calls = g .calls; board = g .board; reported = g .reported; entry = λ k h. ap (λ (l : List ℕ). take ENTRY (drop (ENTRY * k) l)) (g .reported) ∙ entry-at (fresh n) (g .calls) k h; demand = λ k. demand-3 n some most (asMoves (take k (g .calls))) }
+    record { board = g .board; reported = g .reported; entry = λ k h. ap (λ (l : List ℕ). take ENTRY (drop (ENTRY * k) l)) (g .reported) ∙ entry-at (fresh n) calls k h; demand = λ k. demand-3 n some most (asMoves (take k calls)) }

@@ -21,8 +21,7 @@ callAt cs k = getD cs k (Show 0)
 
 -- The entries are those of a sequence of calls on the fresh board, and the board is the one that these calls leave. The k-th 12 bytes tell the
 -- answer to the k-th call after the k calls before it, and there demand 3 holds.
-pub record OfAHistory (n : ℕ) (s : State) (entries : List ℕ) : Type 0 where
-  pub calls : List Call
+pub record OfAHistory (n : ℕ) (s : State) (calls : List Call) (entries : List ℕ) : Type 0 where
   pub board : s ≡ boardAfter n (asMoves calls)
   pub reported : entries ≡ entriesFrom (fresh n) calls
   pub entry :
@@ -31,8 +30,8 @@ pub record OfAHistory (n : ℕ) (s : State) (entries : List ℕ) : Type 0 where
       take ENTRY (drop (ENTRY * k) entries) ≡ entryOf (saidOf (callAt calls k) (answerAfter n (asMoves (take k calls)) (callAt calls k)))
   pub demand :
       (k : ℕ) →
-      Demand (ledgerAfter n (asMoves (take k calls))) (boardAfter n (asMoves (take k calls))) (answerAfter n (asMoves (take k calls)))
+      Demand n (ledgerAfter n (asMoves (take k calls))) (boardAfter n (asMoves (take k calls))) (answerAfter n (asMoves (take k calls)))
 
 -- Whatever is played by runs on a fresh board, in however many pieces.
 abbrev pub ReportsAreOfHistories : Type 0
-ReportsAreOfHistories = (n : ℕ) → 1 ≤ n → n ≤ 4096 → (s : State) (entries : List ℕ) → Runs n s entries → OfAHistory n s entries
+ReportsAreOfHistories = (n : ℕ) → 1 ≤ n → n ≤ 4096 → (s : State) (calls : List Call) (entries : List ℕ) → Runs n s calls entries → OfAHistory n s calls entries

@@ -1,5 +1,5 @@
 -- Runs one after the other on a board that was begun, and the entries of a sequence of calls.
-use Prim.Native.Nat.{ℕ, _*_}
+use Prim.Native.Nat.{ℕ, zero, suc, _*_}
 use mathlib.Core.List.{List, [], _∷_, _++_}
 use lib.ListN.{take}
 use Rattle.call.specs.declared.Call.{Call}
@@ -9,17 +9,31 @@ use Rattle.entry.specs.Entry.{ENTRY, entryOf}
 use Rattle.play.specs.Comes.{Comes}
 use Rattle.play.specs.declared.Ran.{Ran}
 use Rattle.history.specs.History.{fresh}
+use Rattle.schedule.specs.Schedule.{nextOf}
+use Rattle.schedule.specs.declared.Next.{Next}
+use Rattle.schedule.specs.declared.Next.the-variants.{Record, End, Unknown, Cut}
+
+-- The first k calls that a schedule has from a place on; fewer where no record stands.
+abbrev pub callThen : Next → (ℕ → List Call) → List Call
+callThen (Record c next) rest = c ∷ rest next
+callThen End rest = []
+callThen Unknown rest = []
+callThen Cut rest = []
+
+unfoldable pub callsAt : ℕ → List ℕ → ℕ → List Call
+callsAt zero bytes at = []
+callsAt (suc k) bytes at = callThen (nextOf bytes at) (λ next. callsAt k bytes next)
 
 -- A fresh board of n words that runs have played, and all entries that they reported: each run has its own schedule, place, allowance and
 -- report, takes up the board and the words as the run before left them, and comes to what the contract of `play::run` says.
-pub data Runs (n : ℕ) : State → List ℕ → Type 0 where
-  none : Runs n (fresh n) []
-  more :
-      {s : State} {entries : List ℕ} →
-      Runs n s entries →
+pub data Runs (n : ℕ) : State → List Call → List ℕ → Type 0 where
+  noRun : Runs n (fresh n) [] []
+  oneMore :
+      {s : State} {calls : List Call} {entries : List ℕ} →
+      Runs n s calls entries →
       (bytes : List ℕ) (at allowance : ℕ) (report : List ℕ) (r : Ran) (words′ report′ : List ℕ) →
       Comes (s .slots) (s .words) bytes at allowance report r words′ report′ →
-      Runs n (record { slots = r .board .slots; words = words′ }) (entries ++ take (ENTRY * r .records) report′)
+      Runs n (record { slots = r .board .slots; words = words′ }) (calls ++ callsAt (r .records) bytes at) (entries ++ take (ENTRY * r .records) report′)
 
 -- The entries of a sequence of calls: each tells the answer to its call on the board that the calls before it left.
 unfoldable pub entriesFrom : State → List Call → List ℕ
