@@ -1,3 +1,4 @@
 pub mod Records
 pub mod Answers
 pub mod Visit
+pub mod Waits

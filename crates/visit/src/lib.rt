@@ -9,11 +9,14 @@ ghost use lib.ListN.{length, set, getD};
 ghost use Rattle.agent.specs.Life.{leftBy, stepSends, releaseSends, stepTakes, releaseTakes};
 ghost use Rattle.visit.specs.Answers.{saidWith, namedSlot, saidOf};
 ghost use Rattle.visit.specs.Records.{isNothing, isRecord, refusalOf};
+ghost use Rattle.visit.specs.Waits.{isWaiting, numberAhead, stillAhead, waitsOn};
 ghost use Rattle.visit.specs.Visit.{handed, visited, aimOf, withinBoard, visitOf, sentVisit, openVisit, showVisit};
 use agent::Verb;
 use call::Call;
+use request::Phase;
 use request::Request;
 use slots::Map;
+use ticket::Turn;
 
 // One answer for all calls on the board. Opened carries the slot, Shown the word, Told what the agent tells.
 pub enum Answer {
@@ -206,6 +209,61 @@ pub fn visit(c: Call, i: usize, q: Request, words: &mut [u64]) -> Seen
             release_visit(q, words)
         }
         Call::Show(record) => show_visit(record, q, words),
+    }
+}
+
+fn is_waiting(p: Phase) -> bool
+    ensures { λ r. ⌜ r ≡ isWaiting p ⌝ }
+{
+    match p {
+        Phase::Free => false,
+        Phase::Asking => false,
+        Phase::Waiting => true,
+        Phase::Held => false,
+        Phase::Owing => false,
+        Phase::Clearing => false,
+    }
+}
+
+fn number_ahead(t: Turn) -> u64
+    ensures { λ r. ⌜ r ≡ numberAhead t ⌝ }
+{
+    match t {
+        Turn::Passed => 0,
+        Turn::Granted => 0,
+        Turn::Ahead(n) => n,
+    }
+}
+
+// How many are ahead of a request that waits and goes on waiting, else 0.
+fn still_ahead(q: Request, words: &[u64]) -> u64
+    ensures { λ r. ⌜ r ≡ stillAhead q (now (words .entry)) ⌝ }
+{
+    if !is_waiting(request::phase_of(q.phase)) {
+        return 0;
+    }
+    if !is_record(q.record as u64, words.len()) {
+        return 0;
+    }
+    let r = q.record as usize;
+    let v = words[r];
+    number_ahead(ticket::turn_of(request::mode_of(q.mode), q.ticket, word::split(v)))
+}
+
+// How many are ahead where a call is the step of a request that goes on waiting, else 0: such a step leaves the request and the words.
+pub fn waits_on(c: Call, q: Request, words: &[u64]) -> u64
+    ensures { λ r. ⌜ r ≡ waitsOn c q (now (words .entry)) ⌝ }
+{
+    match c {
+        Call::Open(_, _) => 0,
+        Call::Step(n) => {
+            if 256 <= n {
+                return 0;
+            }
+            still_ahead(q, words)
+        }
+        Call::Release(_) => 0,
+        Call::Show(_) => 0,
     }
 }
 
