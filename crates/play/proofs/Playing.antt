@@ -1,7 +1,7 @@
 -- What is kept while a run goes on: the whole run is what has been played so far and the run from here. A turn plays one record and keeps it.
 -- Assumes nothing.
 use Prim.Native.Nat.{ℕ, zero, suc, _+_, _-_, _*_, _<_, _≤_}
-use mathlib.Core.Path.{_≡_, refl, ap, sym, _∙_}
+use mathlib.Core.Path.{_≡_, refl, ap, sym, _∙_, subst}
 use mathlib.Core.Bool.{Bool, true, false, _&&_}
 use mathlib.Core.Logic.{⊎-elim}
 use mathlib.Core.List.{List, [], _∷_, _++_, append-assoc, append-nil}
@@ -10,17 +10,23 @@ use native.Mathlib.Nat.{zero-add, add-zero, sub-zero, eq-or-lt-of-le}
 use borrow.Author.Tests.{eq-eqb, ne-eqb}
 use lib.Dec.{eqb, ltb}
 use lib.ListN.{length, take, drop, getD, set, length-append, length-take, length-set}
-use lib.Seq.{sets, sets-eq, length-sets, drop-append-add, drop-drop, take-at, length-take-le}
+use lib.Seq.{set-getD, sets, sets-eq, length-sets, drop-append-add, drop-drop, take-at, length-take-le}
 use Rattle.word.specs.Choice.{if_then_else_}
 use Rattle.request.specs.Request.{freeRequest}
 use Rattle.request.specs.declared.Request.{Request}
 use Rattle.slots.specs.Map.{mapOf, markedOf}
 use Rattle.slots.proofs.Promises.{mark-follows-store}
 use Rattle.call.specs.declared.Call.{Call}
+use Rattle.call.specs.declared.Call.the-variants.{Open, Step, Release, Show}
 use Rattle.visit.specs.Answers.{saidOf}
-use Rattle.visit.specs.Visit.{aimOf, visitOf}
+use Rattle.visit.specs.Visit.{Visited, aimOf, visitOf}
+use Rattle.visit.specs.Waits.{waitsOn}
 use Rattle.visit.specs.declared.Said.{Said}
 use Rattle.visit.specs.declared.Answer.{Answer}
+use Rattle.visit.specs.declared.Answer.the-variants.{Told}
+use Rattle.visit.proofs.Waits.{waits-visit}
+use Rattle.agent.specs.declared.Answer.the-variants.{Waiting}
+use Rattle.slots.specs.Slots.{inUse}
 use Rattle.board.specs.Board.{State, Done, stateOf, played, slotAt}
 use Rattle.board.specs.Leaves.{stored}
 use Rattle.board.proofs.Visits.{visit-is-played, aim-small}
@@ -233,6 +239,48 @@ plays-one slots₀ words₀ bytes at allowance report₀ words report slots map 
       kept = rw er (put-kept report report₀ records d (p .room) more (p .kept));
       whole = all;
     }
+
+-- a step that goes on waiting sends one verb, and its slot's bit stays
+waits-verb : (c : Call) (q : Request) (ws : List ℕ) (n : ℕ) → n ≡ waitsOn c q ws → (n ≡ 0 → ⊥) → verbsOf c (Told (Waiting n)) ≡ 1
+unfolding verbsOf
+waits-verb (Open r m) q ws n e ne = absurd (ne e)
+waits-verb (Step k) q ws n e ne = refl
+waits-verb (Release k) q ws n e ne = absurd (ne e)
+waits-verb (Show r) q ws n e ne = absurd (ne e)
+
+unmarked : (b : Bool) (m x y : List ℕ) → m ≡ (if b then (if b then m else x) else (if b then y else m))
+unmarked true m x y = refl
+unmarked false m x y = refl
+
+map-stays : (m : List ℕ) (i : ℕ) (q : Request) → m ≡ markedOf m i q q
+unfolding markedOf
+map-stays m i q = unmarked (inUse q) m _ _
+
+-- one step played that goes on waiting: only the report and the counts change
+pub waits-one :
+    (slots₀ : List Request) (words₀ bytes : List ℕ) (at allowance : ℕ) (report₀ words report : List ℕ) (slots : List Request) (map : List ℕ)
+    (place records verbs : ℕ) →
+    Playing slots₀ words₀ bytes at allowance report₀ words report slots map place records verbs →
+    (c : Call) (after : ℕ) →
+    nextOf bytes place ≡ Record c after →
+    haltedOf (isEnd (nextOf bytes place)) (eqb records allowance) (ltb (length report - records * 12) 12) ≡ 0 →
+    (i : ℕ) →
+    i ≡ aimOf c map →
+    (n : ℕ) →
+    n ≡ waitsOn c (getD slots i freeRequest) words →
+    (n ≡ 0 → ⊥) →
+    (report′ : List ℕ) →
+    report′ ≡ putOf report (records * 12) (saidOf c (Told (Waiting n))) →
+    Playing slots₀ words₀ bytes at allowance report₀ words report′ slots map after (records + 1) (verbs + 1)
+waits-one slots₀ words₀ bytes at allowance report₀ words report slots map place records verbs p c after here free i aim n en ne report′ er =
+    let q = getD slots i freeRequest in
+    let e = waits-visit c i q words n (sym en) ne in
+    subst
+    (λ (l : List Request). Playing slots₀ words₀ bytes at allowance report₀ words report′ l map after (records + 1) (verbs + 1))
+    (set-getD slots i freeRequest)
+    (plays-one slots₀ words₀ bytes at allowance report₀ words report slots map place records verbs p c after here free i aim words q
+    (Told (Waiting n)) (sym (ap (λ (v : Visited). v .words) e)) (sym (ap (λ (v : Visited). v .request) e)) (sym (ap (λ (v : Visited). v .answer) e))
+    refl map report′ (verbs + 1) (map-stays map i q) er (ap (λ (k : ℕ). verbs + k) (sym (waits-verb c q words n en ne))))
 
 -- where the run ends: what has been played so far is the whole
 module _

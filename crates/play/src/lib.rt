@@ -2,8 +2,13 @@
 // no record copies the table. It relies on the contracts of `visit`, `slots`, `schedule` and `entry` alone.
 ghost use mathlib.Core.Path.{_≡_};
 ghost use lib.Dec.{ltb};
+ghost use Rattle.agent.specs.declared.Answer.the-variants.{Waiting};
+ghost use Rattle.visit.specs.Answers.{saidOf};
+ghost use Rattle.visit.specs.declared.Answer.the-variants.{Told};
+ghost use Rattle.entry.specs.Entry.{putOf};
 ghost use Rattle.play.specs.Halts.{isEnd, haltedOf, leavesOf};
 ghost use Rattle.play.specs.Comes.{Comes};
+use call::Call;
 use schedule::Next;
 use slots::Board;
 
@@ -55,6 +60,17 @@ fn left_by(n: Next) -> u8
     }
 }
 
+// Writes the entry of a step that goes on waiting.
+fn put_waiting(report: &mut [u8], at: usize, c: Call, ahead: u64)
+    ensures { λ r. ⌜ now (report .exit) ≡ putOf (now (report .entry)) at (saidOf c (Told (Waiting ahead))) ⌝ }
+{
+    entry::put(
+        report,
+        at,
+        visit::tell(c, visit::Answer::Told(agent::Answer::Waiting(ahead))),
+    );
+}
+
 // Plays the schedule from a place on, within an allowance of records and the room of the report.
 pub fn run(
     b: Board,
@@ -95,14 +111,21 @@ pub fn run(
         };
         let i = visit::aim(c, map);
         let q = cur.slots[i];
+        let k = records * 12;
+        let ahead = visit::waits_on(c, q, words);
+        records += 1;
+        place = after;
+        if ahead != 0 {
+            put_waiting(report, k, c, ahead);
+            verbs += 1;
+            continue;
+        }
         let d = visit::visit(c, i, q, words);
         let request = d.request;
         let answer = d.answer;
         cur.slots[i] = request;
         map = slots::marked(map, i, q, request);
-        entry::put(report, records * 12, visit::tell(c, answer));
+        entry::put(report, k, visit::tell(c, answer));
         verbs += entry::verbs_of(c, answer);
-        records += 1;
-        place = after;
     }
 }
