@@ -20,13 +20,13 @@ use Rattle.call.specs.declared.Call.{Call}
 use Rattle.call.specs.declared.Call.the-variants.{Open, Step, Release, Show}
 use Rattle.visit.specs.Answers.{saidOf}
 use Rattle.visit.specs.Visit.{Visited, aimOf, visitOf}
-use Rattle.visit.specs.Waits.{waitsOn}
+use Rattle.visit.specs.Waits.{stillAhead, steppedSlot}
 use Rattle.visit.specs.declared.Said.{Said}
 use Rattle.visit.specs.declared.Answer.{Answer}
 use Rattle.visit.specs.declared.Answer.the-variants.{Told}
 use Rattle.visit.proofs.Waits.{waits-visit}
 use Rattle.agent.specs.declared.Answer.the-variants.{Waiting}
-use Rattle.slots.specs.Slots.{inUse}
+use Rattle.slots.specs.Slots.{SLOTS, inUse}
 use Rattle.board.specs.Board.{State, Done, stateOf, played, slotAt}
 use Rattle.board.specs.Leaves.{stored}
 use Rattle.board.proofs.Visits.{visit-is-played, aim-small}
@@ -241,12 +241,12 @@ plays-one slots₀ words₀ bytes at allowance report₀ words report slots map 
     }
 
 -- a step that goes on waiting sends one verb, and its slot's bit stays
-waits-verb : (c : Call) (q : Request) (ws : List ℕ) (n : ℕ) → n ≡ waitsOn c q ws → (n ≡ 0 → ⊥) → verbsOf c (Told (Waiting n)) ≡ 1
+waits-verb : (c : Call) (n : ℕ) → steppedSlot c < SLOTS → verbsOf c (Told (Waiting n)) ≡ 1
 unfolding verbsOf
-waits-verb (Open r m) q ws n e ne = absurd (ne e)
-waits-verb (Step k) q ws n e ne = refl
-waits-verb (Release k) q ws n e ne = absurd (ne e)
-waits-verb (Show r) q ws n e ne = absurd (ne e)
+waits-verb (Open r m) n small = absurd (omega arith)
+waits-verb (Step k) n small = refl
+waits-verb (Release k) n small = absurd (omega arith)
+waits-verb (Show r) n small = absurd (omega arith)
 
 unmarked : (b : Bool) (m x y : List ℕ) → m ≡ (if b then (if b then m else x) else (if b then y else m))
 unmarked true m x y = refl
@@ -264,23 +264,25 @@ pub waits-one :
     (c : Call) (after : ℕ) →
     nextOf bytes place ≡ Record c after →
     haltedOf (isEnd (nextOf bytes place)) (eqb records allowance) (ltb (length report - records * 12) 12) ≡ 0 →
-    (i : ℕ) →
-    i ≡ aimOf c map →
+    (k : ℕ) →
+    k ≡ steppedSlot c →
+    k < SLOTS →
     (n : ℕ) →
-    n ≡ waitsOn c (getD slots i freeRequest) words →
+    n ≡ stillAhead (getD slots k freeRequest) words →
     (n ≡ 0 → ⊥) →
     (report′ : List ℕ) →
     report′ ≡ putOf report (records * 12) (saidOf c (Told (Waiting n))) →
     Playing slots₀ words₀ bytes at allowance report₀ words report′ slots map after (records + 1) (verbs + 1)
-waits-one slots₀ words₀ bytes at allowance report₀ words report slots map place records verbs p c after here free i aim n en ne report′ er =
+waits-one slots₀ words₀ bytes at allowance report₀ words report slots map place records verbs p c after here free k ek small n en ne report′ er =
+    let i = aimOf c map in
     let q = getD slots i freeRequest in
-    let e = waits-visit c i q words n (sym en) ne in
+    let e = waits-visit c map slots words k n (sym ek) small (sym en) ne in
     subst
     (λ (l : List Request). Playing slots₀ words₀ bytes at allowance report₀ words report′ l map after (records + 1) (verbs + 1))
     (set-getD slots i freeRequest)
-    (plays-one slots₀ words₀ bytes at allowance report₀ words report slots map place records verbs p c after here free i aim words q
+    (plays-one slots₀ words₀ bytes at allowance report₀ words report slots map place records verbs p c after here free i refl words q
     (Told (Waiting n)) (sym (ap (λ (v : Visited). v .words) e)) (sym (ap (λ (v : Visited). v .request) e)) (sym (ap (λ (v : Visited). v .answer) e))
-    refl map report′ (verbs + 1) (map-stays map i q) er (ap (λ (k : ℕ). verbs + k) (sym (waits-verb c q words n en ne))))
+    refl map report′ (verbs + 1) (map-stays map i q) er (ap (λ (x : ℕ). verbs + x) (sym (waits-verb c n (subst (λ (x : ℕ). x < SLOTS) ek small)))))
 
 -- where the run ends: what has been played so far is the whole
 module _

@@ -109,17 +109,20 @@ pub fn run(
                 board: cur,
             };
         };
-        let i = visit::aim(c, map);
-        let q = cur.slots[i];
         let k = records * 12;
-        let ahead = visit::waits_on(c, q, words);
         records += 1;
         place = after;
-        if ahead != 0 {
-            put_waiting(report, k, c, ahead);
-            verbs += 1;
-            continue;
+        let n = visit::stepped(c);
+        if n < 256 {
+            let ahead = visit::still_ahead(cur.slots[n], words);
+            if ahead != 0 {
+                put_waiting(report, k, c, ahead);
+                verbs += 1;
+                continue;
+            }
         }
+        let i = visit::aim(c, map);
+        let q = cur.slots[i];
         let d = visit::visit(c, i, q, words);
         let request = d.request;
         let answer = d.answer;

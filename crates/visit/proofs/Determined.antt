@@ -10,8 +10,10 @@ use Rattle.visit.proofs.tell.Kinds as tell-kinds
 use Rattle.visit.proofs.tell.Reads as tell-reads
 use Rattle.visit.proofs.visit.Kinds as visit-kinds
 use Rattle.visit.proofs.visit.Reads as visit-reads
-use Rattle.visit.proofs.waits_on.Kinds as waits-on-kinds
-use Rattle.visit.proofs.waits_on.Reads as waits-on-reads
+use Rattle.visit.proofs.stepped.Kinds as stepped-kinds
+use Rattle.visit.proofs.stepped.Reads as stepped-reads
+use Rattle.visit.proofs.still_ahead.Kinds as still-ahead-kinds
+use Rattle.visit.proofs.still_ahead.Reads as still-ahead-reads
 
 aim-determined : Determined 0 aim-kinds.ps aim-kinds.r aim-reads.Post
 aim-determined κs a z z′ ws ws′ p q = (only-one p q, refl)
@@ -22,5 +24,8 @@ tell-determined κs a z z′ ws ws′ p q = (only-one p q, refl)
 visit-determined : Determined 1 visit-kinds.ps visit-kinds.r visit-reads.Post
 visit-determined κs a z z′ ws ws′ p q = (only-one (p .0) (q .0), rw (only-one (p .1) (q .1)))
 
-waits-on-determined : Determined 1 waits-on-kinds.ps waits-on-kinds.r waits-on-reads.Post
-waits-on-determined κs a z z′ ws ws′ p q = (only-one p q, refl)
+stepped-determined : Determined 0 stepped-kinds.ps stepped-kinds.r stepped-reads.Post
+stepped-determined κs a z z′ ws ws′ p q = (only-one p q, refl)
+
+still-ahead-determined : Determined 1 still-ahead-kinds.ps still-ahead-kinds.r still-ahead-reads.Post
+still-ahead-determined κs a z z′ ws ws′ p q = (only-one p q, refl)

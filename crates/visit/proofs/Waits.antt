@@ -1,35 +1,33 @@
 -- A step of a request that goes on waiting leaves the request and the words, and tells how many are ahead.
 -- Assumes nothing.
-use Prim.Native.Nat.{ℕ}
+use Prim.Native.Nat.{ℕ, _<_}
 use mathlib.Core.Path.{_≡_, refl, ap, sym, _∙_}
-use mathlib.Core.Bool.{Bool, true, false, not, _&&_}
+use mathlib.Core.Bool.{Bool, true, false, not}
 use mathlib.Core.List.{List}
+use native.Mathlib.Omega.{arith}
 use borrow.Author.Tests.{eqb-true}
 use lib.Dec.{eqb, leb}
 use lib.ListN.{getD, set}
 use lib.Seq.{set-getD}
 use Rattle.word.specs.Choice.{if_then_else_}
 use Rattle.word.specs.Word.{splitOf}
-use Rattle.word.specs.declared.Counters.{Counters}
 use Rattle.ticket.specs.Turn.{turnOf}
 use Rattle.ticket.specs.declared.Turn.{Turn}
 use Rattle.ticket.specs.declared.Turn.the-variants as turn
-use Rattle.request.specs.Request.{phaseOf, modeOf, inPhase}
+use Rattle.request.specs.Request.{phaseOf, modeOf, freeRequest, inPhase}
 use Rattle.request.specs.declared.Request.{Request}
-use Rattle.request.specs.declared.Phase.{Phase}
 use Rattle.request.specs.declared.Phase.the-variants.{Free, Asking, Waiting, Held, Owing, Clearing}
 use Rattle.agent.specs.Life.{stepSends, stepSendsIn, stepTakes, stepTakesIn, becomes, turned}
 use Rattle.agent.specs.declared.Taken.{Taken}
 use Rattle.agent.specs.declared.Answer.the-variants as agent
-use Rattle.agent.specs.declared.Verb.{Verb}
 use Rattle.agent.specs.declared.Verb.the-variants.{Read}
-use Rattle.slots.specs.Slots.{SLOTS, inUse}
+use Rattle.slots.specs.Slots.{SLOTS}
 use Rattle.call.specs.declared.Call.{Call}
 use Rattle.call.specs.declared.Call.the-variants.{Open, Step, Release, Show}
 use Rattle.visit.specs.Records.{isRecord, refusalOf}
-use Rattle.visit.specs.Visit.{Visited, visited, visitOf, namedVisit, sentVisit}
-use Rattle.visit.specs.Waits.{isWaiting, numberAhead, stillAhead, waitsOn}
-use Rattle.visit.specs.declared.Answer.the-variants.{Refused, Told}
+use Rattle.visit.specs.Visit.{Visited, visited, aimOf, visitOf, namedVisit, sentVisit}
+use Rattle.visit.specs.Waits.{isWaiting, numberAhead, stillAhead, steppedSlot}
+use Rattle.visit.specs.declared.Answer.the-variants.{Told}
 use Rattle.visit.proofs.Sent.{accepted-visit}
 
 -- the one test of the phase that a waiting request passes
@@ -82,13 +80,22 @@ still-visit q ws n e ne =
     ap (λ (t : Taken). visited (t .request) (set ws (q .«record») v) (Told (t .answer))) taken ∙
     ap (λ (l : List ℕ). visited q l (Told (agent.Waiting n))) (set-getD ws (q .«record») 0)
 
-named : (b : Bool) (a n : ℕ) (x y z : Visited) → (if b then 0 else a) ≡ n → (n ≡ 0 → ⊥) → (a ≡ n → y ≡ z) → (if b then x else y) ≡ z
-named true a n x y z e ne f = absurd (ne (sym e))
-named false a n x y z e ne f = f e
+-- a step of a slot of the board visits the slot that it names
+within-named : (b : Bool) (j k : ℕ) → (if b then SLOTS else j) ≡ k → k < SLOTS → (b ≡ false) × (j ≡ k)
+within-named true j k e small = absurd (omega arith)
+within-named false j k e small = (refl, e)
 
-pub waits-visit : (c : Call) (i : ℕ) (q : Request) (ws : List ℕ) (n : ℕ) → waitsOn c q ws ≡ n → (n ≡ 0 → ⊥) → visitOf c i q ws ≡ visited q ws (Told (agent.Waiting n))
-unfolding namedVisit
-waits-visit (Open r m) i q ws n e ne = absurd (ne (sym e))
-waits-visit (Step k) i q ws n e ne = named (leb SLOTS k) (stillAhead q ws) n _ _ _ e ne (λ (h : stillAhead q ws ≡ n). still-visit q ws n h ne)
-waits-visit (Release k) i q ws n e ne = absurd (ne (sym e))
-waits-visit (Show r) i q ws n e ne = absurd (ne (sym e))
+pub waits-visit :
+    (c : Call) (m : List ℕ) (slots : List Request) (ws : List ℕ) (k n : ℕ) →
+    steppedSlot c ≡ k →
+    k < SLOTS →
+    stillAhead (getD slots k freeRequest) ws ≡ n →
+    (n ≡ 0 → ⊥) →
+    visitOf c (aimOf c m) (getD slots (aimOf c m) freeRequest) ws ≡ visited (getD slots (aimOf c m) freeRequest) ws (Told (agent.Waiting n))
+unfolding aimOf namedVisit
+waits-visit (Open r j) m slots ws k n e small h ne = absurd (omega arith)
+waits-visit (Step j) m slots ws k n e small h ne =
+    let p = within-named (leb SLOTS j) j k e small in
+    rw (p .0) (still-visit (getD slots j freeRequest) ws n (ap (λ (x : ℕ). stillAhead (getD slots x freeRequest) ws) (p .1) ∙ h) ne)
+waits-visit (Release j) m slots ws k n e small h ne = absurd (omega arith)
+waits-visit (Show r) m slots ws k n e small h ne = absurd (omega arith)

@@ -38,9 +38,9 @@ stillAhead q ws =
     if not (isWaiting (phaseOf (q .phase))) then 0 else
     if not (isRecord (q .«record») ws) then 0 else numberAhead (turnOf (modeOf (q .mode)) (q .ticket) (splitOf (getD ws (q .«record») 0)))
 
--- The same for a call that visits the request; 0 where it is no step of a slot of the board.
-abbrev pub waitsOn : Call → Request → List ℕ → ℕ
-waitsOn (Open r m) q ws = 0
-waitsOn (Step n) q ws = if leb SLOTS n then 0 else stillAhead q ws
-waitsOn (Release n) q ws = 0
-waitsOn (Show r) q ws = 0
+-- The slot of the board that a call steps; as many as there are slots where it steps none.
+abbrev pub steppedSlot : Call → ℕ
+steppedSlot (Open r m) = SLOTS
+steppedSlot (Step n) = if leb SLOTS n then SLOTS else n
+steppedSlot (Release n) = SLOTS
+steppedSlot (Show r) = SLOTS

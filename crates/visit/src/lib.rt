@@ -9,7 +9,7 @@ ghost use lib.ListN.{length, set, getD};
 ghost use Rattle.agent.specs.Life.{leftBy, stepSends, releaseSends, stepTakes, releaseTakes};
 ghost use Rattle.visit.specs.Answers.{saidWith, namedSlot, saidOf};
 ghost use Rattle.visit.specs.Records.{isNothing, isRecord, refusalOf};
-ghost use Rattle.visit.specs.Waits.{isWaiting, numberAhead, stillAhead, waitsOn};
+ghost use Rattle.visit.specs.Waits.{isWaiting, numberAhead, stillAhead, steppedSlot};
 ghost use Rattle.visit.specs.Visit.{handed, visited, aimOf, withinBoard, visitOf, sentVisit, openVisit, showVisit};
 use agent::Verb;
 use call::Call;
@@ -235,8 +235,25 @@ fn number_ahead(t: Turn) -> u64
     }
 }
 
-// How many are ahead of a request that waits and goes on waiting, else 0.
-fn still_ahead(q: Request, words: &[u64]) -> u64
+// The slot of the board that a call steps; 256 where it steps none.
+pub fn stepped(c: Call) -> usize
+    ensures { λ r. ⌜ r ≡ steppedSlot c ⌝ }
+{
+    match c {
+        Call::Open(_, _) => 256,
+        Call::Step(n) => {
+            if 256 <= n {
+                return 256;
+            }
+            n as usize
+        }
+        Call::Release(_) => 256,
+        Call::Show(_) => 256,
+    }
+}
+
+// How many are ahead of a request that waits and goes on waiting, else 0. Its step would leave the request and the words.
+pub fn still_ahead(q: Request, words: &[u64]) -> u64
     ensures { λ r. ⌜ r ≡ stillAhead q (now (words .entry)) ⌝ }
 {
     if !is_waiting(request::phase_of(q.phase)) {
@@ -248,23 +265,6 @@ fn still_ahead(q: Request, words: &[u64]) -> u64
     let r = q.record as usize;
     let v = words[r];
     number_ahead(ticket::turn_of(request::mode_of(q.mode), q.ticket, word::split(v)))
-}
-
-// How many are ahead where a call is the step of a request that goes on waiting, else 0: such a step leaves the request and the words.
-pub fn waits_on(c: Call, q: Request, words: &[u64]) -> u64
-    ensures { λ r. ⌜ r ≡ waitsOn c q (now (words .entry)) ⌝ }
-{
-    match c {
-        Call::Open(_, _) => 0,
-        Call::Step(n) => {
-            if 256 <= n {
-                return 0;
-            }
-            still_ahead(q, words)
-        }
-        Call::Release(_) => 0,
-        Call::Show(_) => 0,
-    }
 }
 
 // The slot that a call names, as one byte; 0 where it names none.

@@ -51,8 +51,8 @@ sub-room c = omega arith
 halted-requires : tie.Need-halted-requires Inv-loop μ-loop
 halted-requires c κs = search needs
 
-sub-t27 : tie.Need-sub-t27 Inv-loop μ-loop
-sub-t27 c = omega arith
+sub-t28 : tie.Need-sub-t28 Inv-loop μ-loop
+sub-t28 c = omega arith
 
 same-length : tie.Need-same-length Inv-loop μ-loop
 same-length c = c .before .before .before .loop .inv .lent
@@ -70,8 +70,8 @@ enum-known-next c = search needs
 left-by-requires : tie.Need-left-by-requires Inv-loop μ-loop
 left-by-requires c κs = search needs
 
-sub-t30 : tie.Need-sub-t30 Inv-loop μ-loop
-sub-t30 c = omega arith
+sub-t31 : tie.Need-sub-t31 Inv-loop μ-loop
+sub-t31 c = omega arith
 
 same-length-3 : tie.Need-same-length-3 Inv-loop μ-loop
 same-length-3 c = c .before .before .before .before .before .loop .inv .lent
@@ -84,6 +84,44 @@ returns-2 c =
     leaves-here (c .before .before .before .before .before .before .before .before .before .before .args .b .slots) (now (c .before .before .before .before .before .before .before .before .before .before .args .words)) (now (c .before .before .before .before .before .before .before .before .before .before .args .s)) (c .before .before .before .before .before .before .before .before .before .before .args .at) (c .before .before .before .before .before .before .before .before .before .before .args .allowance) (now (c .before .before .before .before .before .before .before .before .before .before .args .report)) (c .before .before .before .before .before .loop .words) (c .before .before .before .before .before .loop .report) (c .before .before .before .before .before .loop .cur .slots) (c .before .before .before .before .before .loop .map .parts) (c .before .before .before .before .before .loop .place) (c .before .before .before .before .before .loop .records) (c .before .before .before .before .before .loop .verbs) (c .before .before .before .before .before .loop .inv) (c .left-by .result) _
     (subst (λ (x : Next). OneOf others (tagOf next-type.the-type x)) (c .before .before .before .before .next-at .ensures) (c .before .match .keys2)) (sym (c .before .before .before .halted .ensures ∙ ap (λ (x : Next). haltedOf (isEnd x) (eqb (c .before .before .before .before .before .loop .records) (c .before .before .before .before .before .before .before .before .before .before .args .allowance)) (ltb (length (c .before .before .before .before .before .loop .report) - c .before .before .before .before .before .loop .records * 12) 12)) (c .before .before .before .before .next-at .ensures)) ∙ c .before .before .if1 .left)
     (c .left-by .ensures ∙ ap leavesOf (c .before .before .before .before .next-at .ensures)) refl
+
+-- where a record is played the allowance is not spent and an entry fits
+known :
+    (c : tie.After-known-told Inv-loop μ-loop) →
+    (c .before .before .before .before .before .before .loop .records < c .before .before .before .before .before .before .before .before .before .before .before .args .allowance) × (c .before .before .before .before .before .before .loop .records * 12 + 12 ≤ length (now (c .before .before .before .before .before .before .before .before .before .before .before .args .report)))
+known c = turn-bounds (c .before .before .before .before .before .before .before .before .before .before .before .args .b .slots) (now (c .before .before .before .before .before .before .before .before .before .before .before .args .words)) (now (c .before .before .before .before .before .before .before .before .before .before .before .args .s)) (c .before .before .before .before .before .before .before .before .before .before .before .args .at) (c .before .before .before .before .before .before .before .before .before .before .before .args .allowance) (now (c .before .before .before .before .before .before .before .before .before .before .before .args .report)) (c .before .before .before .before .before .before .loop .words) (c .before .before .before .before .before .before .loop .report) (c .before .before .before .before .before .before .loop .cur .slots) (c .before .before .before .before .before .before .loop .map .parts) (c .before .before .before .before .before .before .loop .place) (c .before .before .before .before .before .before .loop .records) (c .before .before .before .before .before .before .loop .verbs) (c .before .before .before .before .before .before .loop .inv) _ _ (sym (c .before .before .before .before .before .next-at .ensures) ∙ c .before .next .given .1) (sym (c .before .before .before .before .halted .ensures ∙ ap (λ (x : Next). haltedOf (isEnd x) (eqb (c .before .before .before .before .before .before .loop .records) (c .before .before .before .before .before .before .before .before .before .before .before .args .allowance)) (ltb (length (c .before .before .before .before .before .before .loop .report) - c .before .before .before .before .before .before .loop .records * 12) 12)) (c .before .before .before .before .before .next-at .ensures)) ∙ c .before .before .before .if1 .left)
+
+mul-k : tie.Need-mul-k Inv-loop μ-loop
+mul-k c = omega (arith, known c .1, c .before .before .before .before .before .before .before .before .before .before .before .good .1 .1 .1 .1 .1 .0 .0)
+
+add-records : tie.Need-add-records Inv-loop μ-loop
+add-records c = omega (arith, known c .1, c .before .before .before .before .before .before .before .before .before .before .before .good .1 .1 .1 .1 .1 .0 .0)
+
+stepped-requires : tie.Need-stepped-requires Inv-loop μ-loop
+stepped-requires c κs = search needs
+
+mul-still-ahead : tie.Need-mul-still-ahead Inv-loop μ-loop
+mul-still-ahead c = omega (arith, c .if2 .taken)
+
+element-copy-out-still-ahead : tie.Need-element-copy-out-still-ahead Inv-loop μ-loop
+element-copy-out-still-ahead c = c .if2 .taken
+
+still-ahead-requires : tie.Need-still-ahead-requires Inv-loop μ-loop
+still-ahead-requires c κs = search needs
+
+put-waiting-requires : tie.Need-put-waiting-requires Inv-loop μ-loop
+put-waiting-requires c κs = search needs
+
+add-verbs : tie.Need-add-verbs Inv-loop μ-loop
+add-verbs c = omega (arith, known (c .before .before .before .before .before .before .before .before .before .before) .1, c .before .before .before .before .before .before .before .before .before .before .before .before .before .before .before .before .before .before .before .before .before .good .1 .1 .1 .1 .1 .0 .0, c .before .before .before .before .before .before .before .before .before .before .before .before .before .before .before .before .loop .inv .few)
+
+loop-less : tie.Need-loop-less Inv-loop μ-loop
+loop-less c = omega (arith, known (c .before .before .before .before .before .before .before .before .before .before) .0)
+
+loop-again : tie.Need-loop-again Inv-loop μ-loop
+loop-again c =
+    waits-one (c .before .before .before .before .before .before .before .before .before .before .before .before .before .before .before .before .before .before .before .before .before .args .b .slots) (now (c .before .before .before .before .before .before .before .before .before .before .before .before .before .before .before .before .before .before .before .before .before .args .words)) (now (c .before .before .before .before .before .before .before .before .before .before .before .before .before .before .before .before .before .before .before .before .before .args .s)) (c .before .before .before .before .before .before .before .before .before .before .before .before .before .before .before .before .before .before .before .before .before .args .at) (c .before .before .before .before .before .before .before .before .before .before .before .before .before .before .before .before .before .before .before .before .before .args .allowance) (now (c .before .before .before .before .before .before .before .before .before .before .before .before .before .before .before .before .before .before .before .before .before .args .report)) (c .before .before .before .before .before .before .before .before .before .before .before .before .before .before .before .before .loop .words) (c .before .before .before .before .before .before .before .before .before .before .before .before .before .before .before .before .loop .report) (c .before .before .before .before .before .before .before .before .before .before .before .before .before .before .before .before .loop .cur .slots) (c .before .before .before .before .before .before .before .before .before .before .before .before .before .before .before .before .loop .map .parts) (c .before .before .before .before .before .before .before .before .before .before .before .before .before .before .before .before .loop .place) (c .before .before .before .before .before .before .before .before .before .before .before .before .before .before .before .before .loop .records) (c .before .before .before .before .before .before .before .before .before .before .before .before .before .before .before .before .loop .verbs) (c .before .before .before .before .before .before .before .before .before .before .before .before .before .before .before .before .loop .inv) _ _ (sym (c .before .before .before .before .before .before .before .before .before .before .before .before .before .before .before .next-at .ensures) ∙ c .before .before .before .before .before .before .before .before .before .before .before .next .given .1) (sym (c .before .before .before .before .before .before .before .before .before .before .before .before .before .before .halted .ensures ∙ ap (λ (x : Next). haltedOf (isEnd x) (eqb (c .before .before .before .before .before .before .before .before .before .before .before .before .before .before .before .before .loop .records) (c .before .before .before .before .before .before .before .before .before .before .before .before .before .before .before .before .before .before .before .before .before .args .allowance)) (ltb (length (c .before .before .before .before .before .before .before .before .before .before .before .before .before .before .before .before .loop .report) - c .before .before .before .before .before .before .before .before .before .before .before .before .before .before .before .before .loop .records * 12) 12)) (c .before .before .before .before .before .before .before .before .before .before .before .before .before .before .before .next-at .ensures)) ∙ c .before .before .before .before .before .before .before .before .before .before .before .before .before .if1 .left)
+    _ (c .before .before .before .before .before .before .before .before .before .stepped .ensures) (c .before .before .before .before .before .before .before .before .if2 .taken) _ (c .before .before .before .before .before .still-ahead .ensures) (c .before .before .before .before .if3 .taken) _ (c .before .before .put-waiting .ensures)
 
 aim-requires : tie.Need-aim-requires Inv-loop μ-loop
 aim-requires c κs = search needs
@@ -98,43 +136,14 @@ mul-q c = omega (arith, small c)
 element-copy-out-q : tie.Need-element-copy-out-q Inv-loop μ-loop
 element-copy-out-q c = small c
 
--- where a record is played the allowance is not spent and an entry fits
-known :
-    (c : tie.After-known-told Inv-loop μ-loop) →
-    (c .before .before .before .before .before .before .loop .records < c .before .before .before .before .before .before .before .before .before .before .before .args .allowance) × (c .before .before .before .before .before .before .loop .records * 12 + 12 ≤ length (now (c .before .before .before .before .before .before .before .before .before .before .before .args .report)))
-known c = turn-bounds (c .before .before .before .before .before .before .before .before .before .before .before .args .b .slots) (now (c .before .before .before .before .before .before .before .before .before .before .before .args .words)) (now (c .before .before .before .before .before .before .before .before .before .before .before .args .s)) (c .before .before .before .before .before .before .before .before .before .before .before .args .at) (c .before .before .before .before .before .before .before .before .before .before .before .args .allowance) (now (c .before .before .before .before .before .before .before .before .before .before .before .args .report)) (c .before .before .before .before .before .before .loop .words) (c .before .before .before .before .before .before .loop .report) (c .before .before .before .before .before .before .loop .cur .slots) (c .before .before .before .before .before .before .loop .map .parts) (c .before .before .before .before .before .before .loop .place) (c .before .before .before .before .before .before .loop .records) (c .before .before .before .before .before .before .loop .verbs) (c .before .before .before .before .before .before .loop .inv) _ _ (sym (c .before .before .before .before .before .next-at .ensures) ∙ c .before .next .given .1) (sym (c .before .before .before .before .halted .ensures ∙ ap (λ (x : Next). haltedOf (isEnd x) (eqb (c .before .before .before .before .before .before .loop .records) (c .before .before .before .before .before .before .before .before .before .before .before .args .allowance)) (ltb (length (c .before .before .before .before .before .before .loop .report) - c .before .before .before .before .before .before .loop .records * 12) 12)) (c .before .before .before .before .before .next-at .ensures)) ∙ c .before .before .before .if1 .left)
-
-mul-k : tie.Need-mul-k Inv-loop μ-loop
-mul-k c = omega (arith, known (c .before .before) .1, c .before .before .before .before .before .before .before .before .before .before .before .before .before .good .1 .1 .1 .1 .1 .0 .0)
-
-waits-on-requires : tie.Need-waits-on-requires Inv-loop μ-loop
-waits-on-requires c κs = search needs
-
-add-records : tie.Need-add-records Inv-loop μ-loop
-add-records c = omega (arith, known (c .before .before .before .before) .1, c .before .before .before .before .before .before .before .before .before .before .before .before .before .before .before .good .1 .1 .1 .1 .1 .0 .0)
-
-put-waiting-requires : tie.Need-put-waiting-requires Inv-loop μ-loop
-put-waiting-requires c κs = search needs
-
-add-verbs : tie.Need-add-verbs Inv-loop μ-loop
-add-verbs c = omega (arith, known (c .before .before .before .before .before .before .before .before .before) .1, c .before .before .before .before .before .before .before .before .before .before .before .before .before .before .before .before .before .before .before .before .good .1 .1 .1 .1 .1 .0 .0, c .before .before .before .before .before .before .before .before .before .before .before .before .before .before .before .loop .inv .few)
-
-loop-less : tie.Need-loop-less Inv-loop μ-loop
-loop-less c = omega (arith, known (c .before .before .before .before .before .before .before .before .before) .0)
-
-loop-again : tie.Need-loop-again Inv-loop μ-loop
-loop-again c =
-    waits-one (c .before .before .before .before .before .before .before .before .before .before .before .before .before .before .before .before .before .before .before .before .args .b .slots) (now (c .before .before .before .before .before .before .before .before .before .before .before .before .before .before .before .before .before .before .before .before .args .words)) (now (c .before .before .before .before .before .before .before .before .before .before .before .before .before .before .before .before .before .before .before .before .args .s)) (c .before .before .before .before .before .before .before .before .before .before .before .before .before .before .before .before .before .before .before .before .args .at) (c .before .before .before .before .before .before .before .before .before .before .before .before .before .before .before .before .before .before .before .before .args .allowance) (now (c .before .before .before .before .before .before .before .before .before .before .before .before .before .before .before .before .before .before .before .before .args .report)) (c .before .before .before .before .before .before .before .before .before .before .before .before .before .before .before .loop .words) (c .before .before .before .before .before .before .before .before .before .before .before .before .before .before .before .loop .report) (c .before .before .before .before .before .before .before .before .before .before .before .before .before .before .before .loop .cur .slots) (c .before .before .before .before .before .before .before .before .before .before .before .before .before .before .before .loop .map .parts) (c .before .before .before .before .before .before .before .before .before .before .before .before .before .before .before .loop .place) (c .before .before .before .before .before .before .before .before .before .before .before .before .before .before .before .loop .records) (c .before .before .before .before .before .before .before .before .before .before .before .before .before .before .before .loop .verbs) (c .before .before .before .before .before .before .before .before .before .before .before .before .before .before .before .loop .inv) _ _ (sym (c .before .before .before .before .before .before .before .before .before .before .before .before .before .before .next-at .ensures) ∙ c .before .before .before .before .before .before .before .before .before .before .next .given .1) (sym (c .before .before .before .before .before .before .before .before .before .before .before .before .before .halted .ensures ∙ ap (λ (x : Next). haltedOf (isEnd x) (eqb (c .before .before .before .before .before .before .before .before .before .before .before .before .before .before .before .loop .records) (c .before .before .before .before .before .before .before .before .before .before .before .before .before .before .before .before .before .before .before .before .args .allowance)) (ltb (length (c .before .before .before .before .before .before .before .before .before .before .before .before .before .before .before .loop .report) - c .before .before .before .before .before .before .before .before .before .before .before .before .before .before .before .loop .records * 12) 12)) (c .before .before .before .before .before .before .before .before .before .before .before .before .before .before .next-at .ensures)) ∙ c .before .before .before .before .before .before .before .before .before .before .before .before .if1 .left) (c .before .before .before .before .before .before .before .before .aim .result) (c .before .before .before .before .before .before .before .before .aim .ensures)
-    _ (c .before .before .before .before .before .waits-on .ensures) (c .before .before .before .before .if2 .taken) _ (c .before .before .put-waiting .ensures)
-
 visit-requires : tie.Need-visit-requires Inv-loop μ-loop
 visit-requires c κs = search needs
 
 mul-request : tie.Need-mul-request Inv-loop μ-loop
-mul-request c = omega (arith, small (c .before .before .before .before .before .before .before .before .before))
+mul-request c = omega (arith, small (c .before .before .before .before .before .before))
 
 element-set-from-request : tie.Need-element-set-from-request Inv-loop μ-loop
-element-set-from-request c = small (c .before .before .before .before .before .before .before .before .before)
+element-set-from-request c = small (c .before .before .before .before .before .before)
 
 marked-requires : tie.Need-marked-requires Inv-loop μ-loop
 marked-requires c κs = search needs
@@ -149,17 +158,17 @@ verbs-of-requires : tie.Need-verbs-of-requires Inv-loop μ-loop
 verbs-of-requires c κs = search needs
 
 add-verbs-2 : tie.Need-add-verbs-2 Inv-loop μ-loop
-add-verbs-2 c = omega (arith, known (c .before .before .before .before .before .before .before .before .before .before .before .before .before .before .before .before .before) .1, c .before .before .before .before .before .before .before .before .before .before .before .before .before .before .before .before .before .before .before .before .before .before .before .before .before .before .before .before .good .1 .1 .1 .1 .1 .0 .0, subst (λ (n : ℕ). n ≤ 1) (sym (c .verbs-of .ensures)) (verb-le _ _), c .before .before .before .before .before .before .before .before .before .before .before .before .before .before .before .before .before .before .before .before .before .before .before .loop .inv .few)
+add-verbs-2 c = omega (arith, known (c .before .before .before .before .before .before .before .before .before .before .before .before .before .before .before .before) .1, c .before .before .before .before .before .before .before .before .before .before .before .before .before .before .before .before .before .before .before .before .before .before .before .before .before .before .before .good .1 .1 .1 .1 .1 .0 .0, subst (λ (n : ℕ). n ≤ 1) (sym (c .verbs-of .ensures)) (verb-le _ _), c .before .before .before .before .before .before .before .before .before .before .before .before .before .before .before .before .before .before .before .before .before .before .loop .inv .few)
 
 loop-less-2 : tie.Need-loop-less-2 Inv-loop μ-loop
-loop-less-2 c = omega (arith, known (c .before .before .before .before .before .before .before .before .before .before .before .before .before .before .before .before .before) .0)
+loop-less-2 c = omega (arith, known (c .before .before .before .before .before .before .before .before .before .before .before .before .before .before .before .before) .0)
 
 loop-again-2 : tie.Need-loop-again-2 Inv-loop μ-loop
 loop-again-2 c =
     let v = c .before .before .before .before .before .before .before .before .before .before .visit in
-    plays-one (c .before .before .before .before .before .before .before .before .before .before .before .before .before .before .before .before .before .before .before .before .before .before .before .before .before .before .before .before .args .b .slots) (now (c .before .before .before .before .before .before .before .before .before .before .before .before .before .before .before .before .before .before .before .before .before .before .before .before .before .before .before .before .args .words)) (now (c .before .before .before .before .before .before .before .before .before .before .before .before .before .before .before .before .before .before .before .before .before .before .before .before .before .before .before .before .args .s)) (c .before .before .before .before .before .before .before .before .before .before .before .before .before .before .before .before .before .before .before .before .before .before .before .before .before .before .before .before .args .at) (c .before .before .before .before .before .before .before .before .before .before .before .before .before .before .before .before .before .before .before .before .before .before .before .before .before .before .before .before .args .allowance) (now (c .before .before .before .before .before .before .before .before .before .before .before .before .before .before .before .before .before .before .before .before .before .before .before .before .before .before .before .before .args .report)) (c .before .before .before .before .before .before .before .before .before .before .before .before .before .before .before .before .before .before .before .before .before .before .before .loop .words) (c .before .before .before .before .before .before .before .before .before .before .before .before .before .before .before .before .before .before .before .before .before .before .before .loop .report) (c .before .before .before .before .before .before .before .before .before .before .before .before .before .before .before .before .before .before .before .before .before .before .before .loop .cur .slots) (c .before .before .before .before .before .before .before .before .before .before .before .before .before .before .before .before .before .before .before .before .before .before .before .loop .map .parts) (c .before .before .before .before .before .before .before .before .before .before .before .before .before .before .before .before .before .before .before .before .before .before .before .loop .place) (c .before .before .before .before .before .before .before .before .before .before .before .before .before .before .before .before .before .before .before .before .before .before .before .loop .records) (c .before .before .before .before .before .before .before .before .before .before .before .before .before .before .before .before .before .before .before .before .before .before .before .loop .verbs) (c .before .before .before .before .before .before .before .before .before .before .before .before .before .before .before .before .before .before .before .before .before .before .before .loop .inv) _ _ (sym (c .before .before .before .before .before .before .before .before .before .before .before .before .before .before .before .before .before .before .before .before .before .before .next-at .ensures) ∙ c .before .before .before .before .before .before .before .before .before .before .before .before .before .before .before .before .before .before .next .given .1) (sym (c .before .before .before .before .before .before .before .before .before .before .before .before .before .before .before .before .before .before .before .before .before .halted .ensures ∙ ap (λ (x : Next). haltedOf (isEnd x) (eqb (c .before .before .before .before .before .before .before .before .before .before .before .before .before .before .before .before .before .before .before .before .before .before .before .loop .records) (c .before .before .before .before .before .before .before .before .before .before .before .before .before .before .before .before .before .before .before .before .before .before .before .before .before .before .before .before .args .allowance)) (ltb (length (c .before .before .before .before .before .before .before .before .before .before .before .before .before .before .before .before .before .before .before .before .before .before .before .loop .report) - c .before .before .before .before .before .before .before .before .before .before .before .before .before .before .before .before .before .before .before .before .before .before .before .loop .records * 12) 12)) (c .before .before .before .before .before .before .before .before .before .before .before .before .before .before .before .before .before .before .before .before .before .before .next-at .ensures)) ∙ c .before .before .before .before .before .before .before .before .before .before .before .before .before .before .before .before .before .before .before .before .if1 .left) (c .before .before .before .before .before .before .before .before .before .before .before .before .before .before .before .before .aim .result) (c .before .before .before .before .before .before .before .before .before .before .before .before .before .before .before .before .aim .ensures)
+    plays-one (c .before .before .before .before .before .before .before .before .before .before .before .before .before .before .before .before .before .before .before .before .before .before .before .before .before .before .before .args .b .slots) (now (c .before .before .before .before .before .before .before .before .before .before .before .before .before .before .before .before .before .before .before .before .before .before .before .before .before .before .before .args .words)) (now (c .before .before .before .before .before .before .before .before .before .before .before .before .before .before .before .before .before .before .before .before .before .before .before .before .before .before .before .args .s)) (c .before .before .before .before .before .before .before .before .before .before .before .before .before .before .before .before .before .before .before .before .before .before .before .before .before .before .before .args .at) (c .before .before .before .before .before .before .before .before .before .before .before .before .before .before .before .before .before .before .before .before .before .before .before .before .before .before .before .args .allowance) (now (c .before .before .before .before .before .before .before .before .before .before .before .before .before .before .before .before .before .before .before .before .before .before .before .before .before .before .before .args .report)) (c .before .before .before .before .before .before .before .before .before .before .before .before .before .before .before .before .before .before .before .before .before .before .loop .words) (c .before .before .before .before .before .before .before .before .before .before .before .before .before .before .before .before .before .before .before .before .before .before .loop .report) (c .before .before .before .before .before .before .before .before .before .before .before .before .before .before .before .before .before .before .before .before .before .before .loop .cur .slots) (c .before .before .before .before .before .before .before .before .before .before .before .before .before .before .before .before .before .before .before .before .before .before .loop .map .parts) (c .before .before .before .before .before .before .before .before .before .before .before .before .before .before .before .before .before .before .before .before .before .before .loop .place) (c .before .before .before .before .before .before .before .before .before .before .before .before .before .before .before .before .before .before .before .before .before .before .loop .records) (c .before .before .before .before .before .before .before .before .before .before .before .before .before .before .before .before .before .before .before .before .before .before .loop .verbs) (c .before .before .before .before .before .before .before .before .before .before .before .before .before .before .before .before .before .before .before .before .before .before .loop .inv) _ _ (sym (c .before .before .before .before .before .before .before .before .before .before .before .before .before .before .before .before .before .before .before .before .before .next-at .ensures) ∙ c .before .before .before .before .before .before .before .before .before .before .before .before .before .before .before .before .before .next .given .1) (sym (c .before .before .before .before .before .before .before .before .before .before .before .before .before .before .before .before .before .before .before .before .halted .ensures ∙ ap (λ (x : Next). haltedOf (isEnd x) (eqb (c .before .before .before .before .before .before .before .before .before .before .before .before .before .before .before .before .before .before .before .before .before .before .loop .records) (c .before .before .before .before .before .before .before .before .before .before .before .before .before .before .before .before .before .before .before .before .before .before .before .before .before .before .before .args .allowance)) (ltb (length (c .before .before .before .before .before .before .before .before .before .before .before .before .before .before .before .before .before .before .before .before .before .before .loop .report) - c .before .before .before .before .before .before .before .before .before .before .before .before .before .before .before .before .before .before .before .before .before .before .loop .records * 12) 12)) (c .before .before .before .before .before .before .before .before .before .before .before .before .before .before .before .before .before .before .before .before .before .next-at .ensures)) ∙ c .before .before .before .before .before .before .before .before .before .before .before .before .before .before .before .before .before .before .before .if1 .left) (c .before .before .before .before .before .before .before .before .before .before .before .before .before .aim .result) (c .before .before .before .before .before .before .before .before .before .before .before .before .before .aim .ensures)
     (v .last .1 .1 .1 .0) (v .result .request) (v .result .answer) (v .ensures .1) (ap (λ (d : Seen). d .request) (v .ensures .0)) (ap (λ (d : Seen). d .answer) (v .ensures .0)) (v .kept .1 .1 .1 .0)
-    _ _ _ (c .before .before .before .before .before .before .marked .ensures) (c .before .before .before .put .ensures ∙ ap (putOf (c .before .before .before .before .before .before .before .before .before .before .before .before .before .before .before .before .before .before .before .before .before .before .before .loop .report) (c .before .before .before .before .before .before .before .before .before .before .before .before .before .before .before .before .before .before .before .before .before .before .before .loop .records * 12)) (c .before .before .before .before .tell .ensures)) (ap (λ (n : ℕ). c .before .before .before .before .before .before .before .before .before .before .before .before .before .before .before .before .before .before .before .before .before .before .before .loop .verbs + n) (c .verbs-of .ensures))
+    _ _ _ (c .before .before .before .before .before .before .marked .ensures) (c .before .before .before .put .ensures ∙ ap (putOf (c .before .before .before .before .before .before .before .before .before .before .before .before .before .before .before .before .before .before .before .before .before .before .loop .report) (c .before .before .before .before .before .before .before .before .before .before .before .before .before .before .before .before .before .before .before .before .before .before .loop .records * 12)) (c .before .before .before .before .tell .ensures)) (ap (λ (n : ℕ). c .before .before .before .before .before .before .before .before .before .before .before .before .before .before .before .before .before .before .before .before .before .before .loop .verbs + n) (c .verbs-of .ensures))
 
 pub run-spec : {M : Type 1} → statement M
 run-spec =
@@ -173,26 +182,29 @@ run-spec =
     mul-room
     sub-room
     halted-requires
-    sub-t27
+    sub-t28
     same-length
     same-length-2
     returns
     enum-known-next
     left-by-requires
-    sub-t30
+    sub-t31
     same-length-3
     same-length-4
     returns-2
-    aim-requires
-    mul-q
-    element-copy-out-q
     mul-k
-    waits-on-requires
     add-records
+    stepped-requires
+    mul-still-ahead
+    element-copy-out-still-ahead
+    still-ahead-requires
     put-waiting-requires
     add-verbs
     loop-less
     loop-again
+    aim-requires
+    mul-q
+    element-copy-out-q
     visit-requires
     mul-request
     element-set-from-request

@@ -1,10 +1,9 @@
--- `visit::waits_on` meets its contract: each arm is the clause of `waitsOn`.
+-- `visit::stepped` meets its contract: each arm is the clause of `steppedSlot`.
 -- Assumes nothing.
-use mathlib.Core.Path.{_≡_, _∙_, sym, ap}
 use borrow.Author.Tests.{le-leb, lt-leb}
 use borrow.Author.Needs.{needs}
-use Rattle.visit.proofs.waits_on.Statement.{statement}
-use Rattle.visit.proofs.waits_on.Tie as tie
+use Rattle.visit.proofs.stepped.Statement.{statement}
+use Rattle.visit.proofs.stepped.Tie as tie
 
 enum-told : tie.Need-enum-told
 enum-told c = search needs
@@ -14,9 +13,6 @@ enum-known-c c = search needs
 
 returns : tie.Need-returns
 returns c = simp (c .before .before .c .given .1, le-leb _ _ (c .if1 .taken))
-
-still-ahead-requires : tie.Need-still-ahead-requires
-still-ahead-requires c κs = search needs
 
 enum-told-2 : tie.Need-enum-told-2
 enum-told-2 c = search needs
@@ -28,7 +24,7 @@ returns-2 : tie.Need-returns-2
 returns-2 c = search needs
 
 returns-3 : tie.Need-returns-3
-returns-3 c = simp (c .before .before .before .c .given .1, lt-leb _ _ (c .before .if1 .left), c .still-ahead .ensures)
+returns-3 c = simp (c .before .before .c .given .1, lt-leb _ _ (c .if1 .left))
 
 returns-4 : tie.Need-returns-4
 returns-4 c = search needs
@@ -36,14 +32,13 @@ returns-4 c = search needs
 returns-5 : tie.Need-returns-5
 returns-5 c = search needs
 
-pub waits-on-spec : {M : Type 1} → statement M
-waits-on-spec =
+pub stepped-spec : {M : Type 1} → statement M
+stepped-spec =
     tie.close
     (tie.spec
     enum-told
     enum-known-c
     returns
-    still-ahead-requires
     enum-told-2
     enum-told-3
     returns-2
