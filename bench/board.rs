@@ -90,20 +90,18 @@ fn came_to(outcome: u8, value: u64) -> Answer {
     }
 }
 
-struct Board<'w> {
-    words: &'w mut [u64],
+pub struct Board {
     slots: [Request; SLOTS],
     used: [u64; 4],
 }
 
-impl<'w> Board<'w> {
-    fn begin(words: &'w mut [u64]) -> Self {
+impl Board {
+    /// A fresh board over the words, which become 0 unless there are none or too many.
+    pub fn begin(words: &mut [u64]) -> Self {
         if words.len() <= MOST_WORDS {
             words.fill(0);
         }
-        let reach = words.len().min(MOST_WORDS);
         Board {
-            words: &mut words[..reach],
             slots: [FREE; SLOTS],
             used: [0; 4],
         }
@@ -123,8 +121,8 @@ impl<'w> Board<'w> {
 
     /// The slot is 0 where the open is refused.
     #[inline]
-    fn open(&mut self, record: u16, mode: u8) -> (Answer, u8) {
-        if usize::from(record) >= self.words.len() {
+    fn open(&mut self, words: &[u64], record: u16, mode: u8) -> (Answer, u8) {
+        if usize::from(record) >= words.len() {
             return (refused(2), 0);
         }
         if mode > 1 {
@@ -144,14 +142,14 @@ impl<'w> Board<'w> {
     }
 
     #[inline]
-    fn step(&mut self, slot: u8) -> Answer {
+    fn step(&mut self, words: &mut [u64], slot: u8) -> Answer {
         let request = &mut self.slots[usize::from(slot)];
         match request.phase {
             Phase::Free => return refused(4),
             Phase::Held => return refused(5),
             _ => {}
         }
-        let Some(word) = self.words.get_mut(usize::from(request.record)) else {
+        let Some(word) = words.get_mut(usize::from(request.record)) else {
             return refused(2);
         };
         let before = *word;
@@ -207,14 +205,14 @@ impl<'w> Board<'w> {
     }
 
     #[inline]
-    fn release(&mut self, slot: u8) -> Answer {
+    fn release(&mut self, words: &mut [u64], slot: u8) -> Answer {
         let request = &mut self.slots[usize::from(slot)];
         match request.phase {
             Phase::Free => return refused(4),
             Phase::Held => {}
             _ => return refused(5),
         }
-        let Some(word) = self.words.get_mut(usize::from(request.record)) else {
+        let Some(word) = words.get_mut(usize::from(request.record)) else {
             return refused(2);
         };
         *word = word.wrapping_add(if request.writer { 1 << 48 } else { 1 << 32 });
@@ -225,45 +223,86 @@ impl<'w> Board<'w> {
         request.phase = Phase::Clearing;
         came_to(7, 0)
     }
+}
 
-    #[inline]
-    fn show(&self, record: u16) -> Answer {
-        match self.words.get(usize::from(record)) {
-            Some(&word) => came_to(10, word),
-            None => refused(2),
-        }
+#[inline]
+fn show(words: &[u64], record: u16) -> Answer {
+    match words.get(usize::from(record)) {
+        Some(&word) => came_to(10, word),
+        None => refused(2),
     }
 }
 
-/// Plays a schedule on a fresh board until it ends, a record is no record, or the report has no room. Gives the number of verbs.
-pub fn run(words: &mut [u64], schedule: &[u8], report: &mut [u8]) -> u64 {
-    let mut board = Board::begin(words);
-    let mut rest = schedule;
-    let mut verbs = 0;
-    for entry in report.chunks_exact_mut(ENTRY) {
+/// What a run came to: its ending number, the records played, the bytes of the schedule that they took, the verbs sent.
+#[derive(Debug, PartialEq, Eq)]
+pub struct Ran {
+    pub ending: u8,
+    pub records: usize,
+    pub bytes: usize,
+    pub verbs: u64,
+}
+
+/// Plays the schedule from a place on, within an allowance of records and the room of the report.
+pub fn run(
+    board: &mut Board,
+    words: &mut [u64],
+    schedule: &[u8],
+    at: usize,
+    allowance: usize,
+    report: &mut [u8],
+) -> Ran {
+    let reach = words.len().min(MOST_WORDS);
+    let words = &mut words[..reach];
+    let start = schedule.get(at..).unwrap_or_default();
+    let mut rest = start;
+    let mut entries = report.chunks_exact_mut(ENTRY);
+    let (mut records, mut verbs) = (0, 0);
+    let ending = loop {
+        if rest.is_empty() {
+            break 0;
+        }
+        if records == allowance {
+            break 11;
+        }
+        let Some(entry) = entries.next() else {
+            break 12;
+        };
         let (answer, slot, after) = match *rest {
             [1, low, high, mode, ref after @ ..] => {
-                let (answer, slot) = board.open(u16::from_le_bytes([low, high]), mode);
+                let (answer, slot) = board.open(words, u16::from_le_bytes([low, high]), mode);
                 (answer, slot, after)
             }
             [2, slot, ref after @ ..] => {
-                let answer = board.step(slot);
+                let answer = board.step(words, slot);
                 verbs += u64::from(answer.number == 0);
                 (answer, slot, after)
             }
             [3, slot, ref after @ ..] => {
-                let answer = board.release(slot);
+                let answer = board.release(words, slot);
                 verbs += u64::from(answer.number == 0);
                 (answer, slot, after)
             }
             [4, low, high, ref after @ ..] => {
-                (board.show(u16::from_le_bytes([low, high])), 0, after)
+                (show(words, u16::from_le_bytes([low, high])), 0, after)
             }
-            _ => break,
+            [1..=4, ..] => break 7,
+            _ => break 8,
         };
         entry[..4].copy_from_slice(&[answer.number, answer.outcome, slot, 0]);
         entry[4..].copy_from_slice(&answer.value.to_le_bytes());
         rest = after;
+        records += 1;
+    };
+    Ran {
+        ending,
+        records,
+        bytes: start.len() - rest.len(),
+        verbs,
     }
-    verbs
+}
+
+/// What is timed, as `brancove_bench_run` has it: a fresh board plays the whole schedule. Gives the number of verbs.
+pub fn bench_run(words: &mut [u64], schedule: &[u8], report: &mut [u8]) -> u64 {
+    let mut board = Board::begin(words);
+    run(&mut board, words, schedule, 0, 1 << 40, report).verbs
 }

@@ -47,10 +47,36 @@ fn outcome(run: Run, load: &Load, room: usize) -> (u64, Vec<u64>, Vec<u8>) {
     (verbs, words, report)
 }
 
+/// Runs of the rival on 2 words whose ending, records and bytes are known: the rows of `play`'s specs/Examples.antt.
+fn wrong_ending() -> Option<String> {
+    const WORKED: &[u8] = &[1, 0, 0, 1, 2, 0, 3, 0, 4, 0, 0];
+    let rows: [(usize, usize, &[u8], usize, (u8, usize, usize, u64)); 11] = [
+        (10, 100, WORKED, 0, (0, 4, 11, 2)),
+        (1, 100, WORKED, 0, (11, 1, 4, 0)),
+        (0, 100, WORKED, 11, (0, 0, 0, 0)),
+        (0, 0, WORKED, 99, (0, 0, 0, 0)),
+        (10, 23, WORKED, 0, (12, 1, 4, 0)),
+        (0, 0, WORKED, 0, (11, 0, 0, 0)),
+        (10, 100, &[5], 0, (8, 0, 0, 0)),
+        (10, 11, &[5], 0, (12, 0, 0, 0)),
+        (10, 100, &[1, 0, 0], 0, (7, 0, 0, 0)),
+        (10, 11, &[2], 0, (12, 0, 0, 0)),
+        (10, 100, &[2, 9, 4, 1, 0], 0, (0, 2, 5, 0)),
+    ];
+    rows.iter()
+        .find_map(|&(allowance, room, schedule, at, row)| {
+            let (mut words, mut report) = ([0; 2], vec![0; room]);
+            let mut board = board::Board::begin(&mut words);
+            let ran = board::run(&mut board, &mut words, schedule, at, allowance, &mut report);
+            let came = (ran.ending, ran.records, ran.bytes, ran.verbs);
+            (came != row).then(|| format!("{schedule:?} from {at}: {came:?} and not {row:?}"))
+        })
+}
+
 /// The first thing in which the two differ.
 fn difference(load: &Load, room: usize) -> Option<String> {
     let (verbs, words, report) = outcome(proved, load, room);
-    let (other_verbs, other_words, other_report) = outcome(board::run, load, room);
+    let (other_verbs, other_words, other_report) = outcome(board::bench_run, load, room);
     if let Some(at) = report.iter().zip(&other_report).position(|(a, b)| a != b) {
         let entry = at / 12 * 12..(at / 12 * 12 + 12).min(room);
         return Some(format!(
@@ -84,7 +110,7 @@ fn turn(run: Run, load: &Load, words: &mut [u64], report: &mut [u8]) -> f64 {
 }
 
 fn accepted(load: &Load) -> usize {
-    let (_, _, report) = outcome(board::run, load, load.records * 12);
+    let (_, _, report) = outcome(board::bench_run, load, load.records * 12);
     report
         .chunks_exact(12)
         .filter(|entry| entry[0] == 0)
@@ -99,6 +125,10 @@ fn main() -> ExitCode {
         loads::mixed(64),
     ];
     let also = loads::compared_only();
+    if let Some(said) = wrong_ending() {
+        println!("FAILED: the Rust run ends otherwise. {said}");
+        return ExitCode::FAILURE;
+    }
     let mut compared = 0;
     for load in timed.iter().chain(&also) {
         let all = load.records * 12;
@@ -122,7 +152,7 @@ fn main() -> ExitCode {
         let (mut ours, mut theirs) = (Vec::new(), Vec::new());
         for round in 0..ROUNDS + WARM {
             let a = turn(proved, load, &mut words, &mut report);
-            let b = turn(board::run, load, &mut words, &mut report);
+            let b = turn(board::bench_run, load, &mut words, &mut report);
             if round >= WARM {
                 ours.push(a);
                 theirs.push(b);
