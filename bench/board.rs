@@ -255,18 +255,9 @@ pub fn run(
     let words = &mut words[..reach];
     let start = schedule.get(at..).unwrap_or_default();
     let mut rest = start;
-    let mut entries = report.chunks_exact_mut(ENTRY);
     let (mut records, mut verbs) = (0, 0);
-    let ending = loop {
-        if rest.is_empty() {
-            break 0;
-        }
-        if records == allowance {
-            break 11;
-        }
-        let Some(entry) = entries.next() else {
-            break 12;
-        };
+    let mut stopped = None;
+    for entry in report.chunks_exact_mut(ENTRY).take(allowance) {
         let (answer, slot, after) = match *rest {
             [1, low, high, mode, ref after @ ..] => {
                 let (answer, slot) = board.open(words, u16::from_le_bytes([low, high]), mode);
@@ -285,19 +276,36 @@ pub fn run(
             [4, low, high, ref after @ ..] => {
                 (show(words, u16::from_le_bytes([low, high])), 0, after)
             }
-            [1..=4, ..] => break 7,
-            _ => break 8,
+            ref other => {
+                stopped = Some(left_by(other));
+                break;
+            }
         };
         entry[..4].copy_from_slice(&[answer.number, answer.outcome, slot, 0]);
         entry[4..].copy_from_slice(&answer.value.to_le_bytes());
         rest = after;
         records += 1;
+    }
+    let ending = match stopped {
+        Some(ending) => ending,
+        None if rest.is_empty() => 0,
+        None if records == allowance => 11,
+        None => 12,
     };
     Ran {
         ending,
         records,
         bytes: start.len() - rest.len(),
         verbs,
+    }
+}
+
+/// What a run ends with where no record stands: at the end, at a cut record, at an unknown kind.
+fn left_by(rest: &[u8]) -> u8 {
+    match rest {
+        [] => 0,
+        [1..=4, ..] => 7,
+        _ => 8,
     }
 }
 
