@@ -145,101 +145,6 @@ verb-le c a = at-most (sends c && eqb (saidOf c a .number) 0)
     at-most true = omega arith
     at-most false = omega arith
 
--- where a record is played the allowance is not spent and an entry fits
-pub turn-bounds :
-    (slots₀ : List Request) (words₀ bytes : List ℕ) (at allowance : ℕ) (report₀ words report : List ℕ) (slots : List Request) (map : List ℕ)
-    (place records verbs : ℕ) →
-    Playing slots₀ words₀ bytes at allowance report₀ words report slots map place records verbs →
-    (c : Call) (after : ℕ) →
-    nextOf bytes place ≡ Record c after →
-    haltedOf (isEnd (nextOf bytes place)) (eqb records allowance) (ltb (length report - records * 12) 12) ≡ 0 →
-    (records < allowance) × (records * 12 + 12 ≤ length report₀)
-turn-bounds slots₀ words₀ bytes at allowance report₀ words report slots map place records verbs p c after here free =
-    let room = length report₀ - records * 12 in
-    let test : haltedOf (isEnd (nextOf bytes place)) (eqb (allowance - records) 0) (ltb room 12) ≡ 0 =
-    ap (λ (x : Bool). haltedOf (isEnd (nextOf bytes place)) x (ltb room 12)) (spent-test records allowance (p .within)) ∙
-    ap (λ (k : ℕ). haltedOf (isEnd (nextOf bytes place)) (eqb records allowance) (ltb (k - records * 12) 12)) (sym (p .room)) ∙ free in
-    let step = plays bytes place (record { slots = slots; words = words }) room (allowance - records) c after here test in
-    let a = step .1 .0 in
-    let r = step .1 .1 in
-    (omega arith, omega (arith, p .fit))
-
--- one record played
-pub plays-one :
-    (slots₀ : List Request) (words₀ bytes : List ℕ) (at allowance : ℕ) (report₀ words report : List ℕ) (slots : List Request) (map : List ℕ)
-    (place records verbs : ℕ) →
-    Playing slots₀ words₀ bytes at allowance report₀ words report slots map place records verbs →
-    (c : Call) (after : ℕ) →
-    nextOf bytes place ≡ Record c after →
-    haltedOf (isEnd (nextOf bytes place)) (eqb records allowance) (ltb (length report - records * 12) 12) ≡ 0 →
-    (i : ℕ) →
-    i ≡ aimOf c map →
-    (words′ : List ℕ) (request : Request) (answer : Answer) →
-    words′ ≡ visitOf c i (getD slots i freeRequest) words .words →
-    request ≡ visitOf c i (getD slots i freeRequest) words .request →
-    answer ≡ visitOf c i (getD slots i freeRequest) words .answer →
-    length words′ ≡ length words →
-    (map′ report′ : List ℕ) (verbs′ : ℕ) →
-    map′ ≡ markedOf map i (getD slots i freeRequest) request →
-    report′ ≡ putOf report (records * 12) (saidOf c answer) →
-    verbs′ ≡ verbs + verbsOf c answer →
-    Playing slots₀ words₀ bytes at allowance report₀ words′ report′ (set slots i request) map′ after (records + 1) verbs′
-plays-one slots₀ words₀ bytes at allowance report₀ words report slots map place records verbs p c after here free i aim words′ request answer ew eq ea lw map′ report′ verbs′ em er ev =
-    let s : State = record { slots = slots; words = words } in
-    let room = length report₀ - records * 12 in
-    let test : haltedOf (isEnd (nextOf bytes place)) (eqb (allowance - records) 0) (ltb room 12) ≡ 0 =
-    ap (λ (x : Bool). haltedOf (isEnd (nextOf bytes place)) x (ltb room 12)) (spent-test records allowance (p .within)) ∙
-    ap (λ (k : ℕ). haltedOf (isEnd (nextOf bytes place)) (eqb records allowance) (ltb (k - records * 12) 12)) (sym (p .room)) ∙ free in
-    let step = plays bytes place s room (allowance - records) c after here test in
-    let aimed : i ≡ aimOf c (mapOf slots) = aim ∙ ap (aimOf c) (p .mapped) in
-    let small : i < 256 = rw aimed (aim-small c (mapOf slots)) in
-    let visit : played c s ≡ stored s i (visitOf c i (getD slots i freeRequest) words) =
-    visit-is-played c s (p .long) ∙ ap (λ (k : ℕ). stored s k (visitOf c k (slotAt s k) words)) (sym aimed) in
-    let told : played c s .answer ≡ answer = ap (λ (d : Done). d .answer) visit ∙ sym ea in
-    let left : stateOf (played c s) ≡ record { slots = set slots i request; words = words′ } =
-    ap stateOf visit ∙ ap (λ (q : Request). record { slots = set slots i q; words = visitOf c i (getD slots i freeRequest) words .words }) (sym eq) ∙
-    ap (λ (w : List ℕ). record { slots = set slots i request; words = w }) (sym ew) in
-    let d = saidOf c answer in
-    let more : records * 12 + 12 ≤ length report₀ = let h = step .1 .1 in omega (arith, p .fit) in
-    let front = put-front report report₀ records d (p .room) more (p .kept) in
-    let fewer : allowance - records - 1 ≡ allowance - (records + 1) = omega arith in
-    let shorter : room - 12 ≡ length report₀ - (records + 1) * 12 = omega arith in
-    let e = take (records * 12) report in
-    let t : State = record { slots = set slots i request; words = words′ } in
-    let all :
-    runOf allowance (length report₀) bytes at (record { slots = slots₀; words = words₀ }) ≡
-    joined (soFar (records + 1) verbs′ (take ((records + 1) * 12) report′)) (runOf (allowance - (records + 1)) (length report₀ - (records + 1) * 12) bytes after t) =
-    p .whole ∙ ap (λ (w : Whole). joined (soFar records verbs e) w) (step .0) ∙
-    one-more records verbs e c (played c s .answer) (runOf (allowance - records - 1) (room - 12) bytes after (stateOf (played c s))) ∙
-    ap
-    (λ (a : Answer).
-    joined (soFar (records + 1) (verbs + verbsOf c a) (e ++ entryOf (saidOf c a))) (runOf (allowance - records - 1) (room - 12) bytes after (stateOf (played c s))))
-    told ∙
-    ap (λ (u : State). joined (soFar (records + 1) (verbs + verbsOf c answer) (e ++ entryOf d)) (runOf (allowance - records - 1) (room - 12) bytes after u)) left ∙
-    ap (λ (k : ℕ). joined (soFar (records + 1) (verbs + verbsOf c answer) (e ++ entryOf d)) (runOf k (room - 12) bytes after t)) fewer ∙
-    ap (λ (k : ℕ). joined (soFar (records + 1) (verbs + verbsOf c answer) (e ++ entryOf d)) (runOf (allowance - (records + 1)) k bytes after t)) shorter ∙
-    ap
-    (λ (v : ℕ).
-    joined (soFar (records + 1) v (e ++ entryOf d)) (runOf (allowance - (records + 1)) (length report₀ - (records + 1) * 12) bytes after t))
-    (sym ev) ∙
-    ap
-    (λ (f : List ℕ).
-    joined (soFar (records + 1) verbs′ f) (runOf (allowance - (records + 1)) (length report₀ - (records + 1) * 12) bytes after t))
-    (sym front ∙ ap (take ((records + 1) * 12)) (sym er)) in
-    record {
-      long = length-set slots i request ∙ p .long;
-      mapped =
-          em ∙ ap (λ (m : List ℕ). markedOf m i (getD slots i freeRequest) request) (p .mapped) ∙ mark-follows-store slots (p .long) i small request;
-      lent = lw ∙ p .lent;
-      room = ap length er ∙ put-long report report₀ records d (p .room) more (p .kept);
-      within = let h = step .1 .0 in omega (arith, p .within);
-      fit = omega arith;
-      few = omega (arith, p .few, verb-le c answer);
-      ahead = omega (arith, p .ahead, record-after bytes place c after here);
-      kept = rw er (put-kept report report₀ records d (p .room) more (p .kept));
-      whole = all;
-    }
-
 -- a step that goes on waiting sends one verb, and its slot's bit stays
 waits-verb : (c : Call) (n : ℕ) → steppedSlot c < SLOTS → verbsOf c (Told (Waiting n)) ≡ 1
 unfolding verbsOf
@@ -256,33 +161,124 @@ map-stays : (m : List ℕ) (i : ℕ) (q : Request) → m ≡ markedOf m i q q
 unfolding markedOf
 map-stays m i q = unmarked (inUse q) m _ _
 
--- one step played that goes on waiting: only the report and the counts change
-pub waits-one :
-    (slots₀ : List Request) (words₀ bytes : List ℕ) (at allowance : ℕ) (report₀ words report : List ℕ) (slots : List Request) (map : List ℕ)
-    (place records verbs : ℕ) →
-    Playing slots₀ words₀ bytes at allowance report₀ words report slots map place records verbs →
-    (c : Call) (after : ℕ) →
-    nextOf bytes place ≡ Record c after →
-    haltedOf (isEnd (nextOf bytes place)) (eqb records allowance) (ltb (length report - records * 12) 12) ≡ 0 →
-    (k : ℕ) →
-    k ≡ steppedSlot c →
-    k < SLOTS →
-    (n : ℕ) →
-    n ≡ stillAhead (getD slots k freeRequest) words →
-    (n ≡ 0 → ⊥) →
-    (report′ : List ℕ) →
-    report′ ≡ putOf report (records * 12) (saidOf c (Told (Waiting n))) →
-    Playing slots₀ words₀ bytes at allowance report₀ words report′ slots map after (records + 1) (verbs + 1)
-waits-one slots₀ words₀ bytes at allowance report₀ words report slots map place records verbs p c after here free k ek small n en ne report′ er =
-    let i = aimOf c map in
-    let q = getD slots i freeRequest in
-    let e = waits-visit c map slots words k n (sym ek) small (sym en) ne in
-    subst
-    (λ (l : List Request). Playing slots₀ words₀ bytes at allowance report₀ words report′ l map after (records + 1) (verbs + 1))
-    (set-getD slots i freeRequest)
-    (plays-one slots₀ words₀ bytes at allowance report₀ words report slots map place records verbs p c after here free i refl words q
-    (Told (Waiting n)) (sym (ap (λ (v : Visited). v .words) e)) (sym (ap (λ (v : Visited). v .request) e)) (sym (ap (λ (v : Visited). v .answer) e))
-    refl map report′ (verbs + 1) (map-stays map i q) er (ap (λ (x : ℕ). verbs + x) (sym (waits-verb c n (subst (λ (x : ℕ). x < SLOTS) ek small)))))
+-- where a record is played: what is kept, the record that stands at the place, and that nothing stops the run before it
+pub record Turning
+    (slots₀ : List Request) (words₀ bytes : List ℕ) (at allowance : ℕ) (report₀ : List ℕ) (words report : List ℕ) (slots : List Request) (map : List ℕ)
+    (place records verbs : ℕ) (c : Call) (after : ℕ) :
+    Type 0 where
+  pub inv : Playing slots₀ words₀ bytes at allowance report₀ words report slots map place records verbs
+  pub here : nextOf bytes place ≡ Record c after
+  pub free : haltedOf (isEnd (nextOf bytes place)) (eqb records allowance) (ltb (length report - records * 12) 12) ≡ 0
+
+module _
+    {slots₀ : List Request} {words₀ bytes : List ℕ} {at allowance : ℕ} {report₀ words report : List ℕ} {slots : List Request} {map : List ℕ}
+    {place records verbs : ℕ} {c : Call} {after : ℕ} (turn : Turning slots₀ words₀ bytes at allowance report₀ words report slots map place records verbs c after) where
+  -- where a record is played the allowance is not spent and an entry fits
+  pub turn-bounds :
+      (records < allowance) × (records * 12 + 12 ≤ length report₀)
+  turn-bounds =
+      let p = turn .inv in
+      let room = length report₀ - records * 12 in
+      let test : haltedOf (isEnd (nextOf bytes place)) (eqb (allowance - records) 0) (ltb room 12) ≡ 0 =
+      ap (λ (x : Bool). haltedOf (isEnd (nextOf bytes place)) x (ltb room 12)) (spent-test records allowance (p .within)) ∙
+      ap (λ (k : ℕ). haltedOf (isEnd (nextOf bytes place)) (eqb records allowance) (ltb (k - records * 12) 12)) (sym (p .room)) ∙ turn .free in
+      let step = plays bytes place (record { slots = slots; words = words }) room (allowance - records) c after (turn .here) test in
+      let a = step .1 .0 in
+      let r = step .1 .1 in
+      (omega arith, omega (arith, p .fit))
+
+  -- one record played
+  pub plays-one :
+      (i : ℕ) →
+      i ≡ aimOf c map →
+      (words′ : List ℕ) (request : Request) (answer : Answer) →
+      words′ ≡ visitOf c i (getD slots i freeRequest) words .words →
+      request ≡ visitOf c i (getD slots i freeRequest) words .request →
+      answer ≡ visitOf c i (getD slots i freeRequest) words .answer →
+      length words′ ≡ length words →
+      (map′ report′ : List ℕ) (verbs′ : ℕ) →
+      map′ ≡ markedOf map i (getD slots i freeRequest) request →
+      report′ ≡ putOf report (records * 12) (saidOf c answer) →
+      verbs′ ≡ verbs + verbsOf c answer →
+      Playing slots₀ words₀ bytes at allowance report₀ words′ report′ (set slots i request) map′ after (records + 1) verbs′
+  plays-one i aim words′ request answer ew eq ea lw map′ report′ verbs′ em er ev =
+      let p = turn .inv in
+      let s : State = record { slots = slots; words = words } in
+      let room = length report₀ - records * 12 in
+      let test : haltedOf (isEnd (nextOf bytes place)) (eqb (allowance - records) 0) (ltb room 12) ≡ 0 =
+      ap (λ (x : Bool). haltedOf (isEnd (nextOf bytes place)) x (ltb room 12)) (spent-test records allowance (p .within)) ∙
+      ap (λ (k : ℕ). haltedOf (isEnd (nextOf bytes place)) (eqb records allowance) (ltb (k - records * 12) 12)) (sym (p .room)) ∙ turn .free in
+      let step = plays bytes place s room (allowance - records) c after (turn .here) test in
+      let aimed : i ≡ aimOf c (mapOf slots) = aim ∙ ap (aimOf c) (p .mapped) in
+      let small : i < 256 = rw aimed (aim-small c (mapOf slots)) in
+      let visit : played c s ≡ stored s i (visitOf c i (getD slots i freeRequest) words) =
+      visit-is-played c s (p .long) ∙ ap (λ (k : ℕ). stored s k (visitOf c k (slotAt s k) words)) (sym aimed) in
+      let told : played c s .answer ≡ answer = ap (λ (d : Done). d .answer) visit ∙ sym ea in
+      let left : stateOf (played c s) ≡ record { slots = set slots i request; words = words′ } =
+      ap stateOf visit ∙ ap (λ (q : Request). record { slots = set slots i q; words = visitOf c i (getD slots i freeRequest) words .words }) (sym eq) ∙
+      ap (λ (w : List ℕ). record { slots = set slots i request; words = w }) (sym ew) in
+      let d = saidOf c answer in
+      let more : records * 12 + 12 ≤ length report₀ = let h = step .1 .1 in omega (arith, p .fit) in
+      let front = put-front report report₀ records d (p .room) more (p .kept) in
+      let fewer : allowance - records - 1 ≡ allowance - (records + 1) = omega arith in
+      let shorter : room - 12 ≡ length report₀ - (records + 1) * 12 = omega arith in
+      let e = take (records * 12) report in
+      let t : State = record { slots = set slots i request; words = words′ } in
+      let all :
+      runOf allowance (length report₀) bytes at (record { slots = slots₀; words = words₀ }) ≡
+      joined (soFar (records + 1) verbs′ (take ((records + 1) * 12) report′)) (runOf (allowance - (records + 1)) (length report₀ - (records + 1) * 12) bytes after t) =
+      p .whole ∙ ap (λ (w : Whole). joined (soFar records verbs e) w) (step .0) ∙
+      one-more records verbs e c (played c s .answer) (runOf (allowance - records - 1) (room - 12) bytes after (stateOf (played c s))) ∙
+      ap
+      (λ (a : Answer).
+      joined (soFar (records + 1) (verbs + verbsOf c a) (e ++ entryOf (saidOf c a))) (runOf (allowance - records - 1) (room - 12) bytes after (stateOf (played c s))))
+      told ∙
+      ap (λ (u : State). joined (soFar (records + 1) (verbs + verbsOf c answer) (e ++ entryOf d)) (runOf (allowance - records - 1) (room - 12) bytes after u)) left ∙
+      ap (λ (k : ℕ). joined (soFar (records + 1) (verbs + verbsOf c answer) (e ++ entryOf d)) (runOf k (room - 12) bytes after t)) fewer ∙
+      ap (λ (k : ℕ). joined (soFar (records + 1) (verbs + verbsOf c answer) (e ++ entryOf d)) (runOf (allowance - (records + 1)) k bytes after t)) shorter ∙
+      ap
+      (λ (v : ℕ).
+      joined (soFar (records + 1) v (e ++ entryOf d)) (runOf (allowance - (records + 1)) (length report₀ - (records + 1) * 12) bytes after t))
+      (sym ev) ∙
+      ap
+      (λ (f : List ℕ).
+      joined (soFar (records + 1) verbs′ f) (runOf (allowance - (records + 1)) (length report₀ - (records + 1) * 12) bytes after t))
+      (sym front ∙ ap (take ((records + 1) * 12)) (sym er)) in
+      record {
+        long = length-set slots i request ∙ p .long;
+        mapped =
+            em ∙ ap (λ (m : List ℕ). markedOf m i (getD slots i freeRequest) request) (p .mapped) ∙ mark-follows-store slots (p .long) i small request;
+        lent = lw ∙ p .lent;
+        room = ap length er ∙ put-long report report₀ records d (p .room) more (p .kept);
+        within = let h = step .1 .0 in omega (arith, p .within);
+        fit = omega arith;
+        few = omega (arith, p .few, verb-le c answer);
+        ahead = omega (arith, p .ahead, record-after bytes place c after (turn .here));
+        kept = rw er (put-kept report report₀ records d (p .room) more (p .kept));
+        whole = all;
+      }
+
+  -- one step played that goes on waiting: only the report and the counts change
+  pub waits-one :
+      (k : ℕ) →
+      k ≡ steppedSlot c →
+      k < SLOTS →
+      (n : ℕ) →
+      n ≡ stillAhead (getD slots k freeRequest) words →
+      (n ≡ 0 → ⊥) →
+      (report′ : List ℕ) →
+      report′ ≡ putOf report (records * 12) (saidOf c (Told (Waiting n))) →
+      Playing slots₀ words₀ bytes at allowance report₀ words report′ slots map after (records + 1) (verbs + 1)
+  waits-one k ek small n en ne report′ er =
+      let i = aimOf c map in
+      let q = getD slots i freeRequest in
+      let e = waits-visit c map slots words k n (sym ek) small (sym en) ne in
+      subst
+      (λ (l : List Request). Playing slots₀ words₀ bytes at allowance report₀ words report′ l map after (records + 1) (verbs + 1))
+      (set-getD slots i freeRequest)
+      (plays-one i refl words q
+      (Told (Waiting n)) (sym (ap (λ (v : Visited). v .words) e)) (sym (ap (λ (v : Visited). v .request) e)) (sym (ap (λ (v : Visited). v .answer) e))
+      refl map report′ (verbs + 1) (map-stays map i q) er (ap (λ (x : ℕ). verbs + x) (sym (waits-verb c n (subst (λ (x : ℕ). x < SLOTS) ek small)))))
 
 -- where the run ends: what has been played so far is the whole
 module _

@@ -18,7 +18,7 @@ use Rattle.schedule.specs.declared.Next.{Next}
 use Rattle.schedule.proofs.Next as next-type
 use Rattle.play.specs.Halts.{isEnd, haltedOf, leavesOf}
 use Rattle.play.proofs.Runs.{others}
-use Rattle.play.proofs.Playing.{Playing, begins, verb-le, turn-bounds, plays-one, waits-one, halts-here, leaves-here}
+use Rattle.play.proofs.Playing.{Playing, Turning, begins, verb-le, turn-bounds, plays-one, waits-one, halts-here, leaves-here}
 use Rattle.play.proofs.run.Statement.{statement}
 use Rattle.play.proofs.run.Tie as tie
 
@@ -85,17 +85,22 @@ returns-2 c =
     (subst (λ (x : Next). OneOf others (tagOf next-type.the-type x)) (c .before .before .before .before .next-at .ensures) (c .before .match .keys2)) (sym (c .before .before .before .halted .ensures ∙ ap (λ (x : Next). haltedOf (isEnd x) (eqb (c .before .before .before .before .before .loop .records) (c .before .before .before .before .before .before .before .before .before .before .args .allowance)) (ltb (length (c .before .before .before .before .before .loop .report) - c .before .before .before .before .before .loop .records * 12) 12)) (c .before .before .before .before .next-at .ensures)) ∙ c .before .before .if1 .left)
     (c .left-by .ensures ∙ ap leavesOf (c .before .before .before .before .next-at .ensures)) refl
 
--- where a record is played the allowance is not spent and an entry fits
-known :
+-- what is known where a record is played
+turning :
     (c : tie.After-known-told Inv-loop μ-loop) →
-    (c .before .before .before .before .before .before .loop .records < c .before .before .before .before .before .before .before .before .before .before .before .args .allowance) × (c .before .before .before .before .before .before .loop .records * 12 + 12 ≤ length (now (c .before .before .before .before .before .before .before .before .before .before .before .args .report)))
-known c = turn-bounds (c .before .before .before .before .before .before .before .before .before .before .before .args .b .slots) (now (c .before .before .before .before .before .before .before .before .before .before .before .args .words)) (now (c .before .before .before .before .before .before .before .before .before .before .before .args .s)) (c .before .before .before .before .before .before .before .before .before .before .before .args .at) (c .before .before .before .before .before .before .before .before .before .before .before .args .allowance) (now (c .before .before .before .before .before .before .before .before .before .before .before .args .report)) (c .before .before .before .before .before .before .loop .words) (c .before .before .before .before .before .before .loop .report) (c .before .before .before .before .before .before .loop .cur .slots) (c .before .before .before .before .before .before .loop .map .parts) (c .before .before .before .before .before .before .loop .place) (c .before .before .before .before .before .before .loop .records) (c .before .before .before .before .before .before .loop .verbs) (c .before .before .before .before .before .before .loop .inv) _ _ (sym (c .before .before .before .before .before .next-at .ensures) ∙ c .before .next .given .1) (sym (c .before .before .before .before .halted .ensures ∙ ap (λ (x : Next). haltedOf (isEnd x) (eqb (c .before .before .before .before .before .before .loop .records) (c .before .before .before .before .before .before .before .before .before .before .before .args .allowance)) (ltb (length (c .before .before .before .before .before .before .loop .report) - c .before .before .before .before .before .before .loop .records * 12) 12)) (c .before .before .before .before .before .next-at .ensures)) ∙ c .before .before .before .if1 .left)
+    Turning (c .before .before .before .before .before .before .before .before .before .before .before .args .b .slots) (now (c .before .before .before .before .before .before .before .before .before .before .before .args .words)) (now (c .before .before .before .before .before .before .before .before .before .before .before .args .s)) (c .before .before .before .before .before .before .before .before .before .before .before .args .at) (c .before .before .before .before .before .before .before .before .before .before .before .args .allowance) (now (c .before .before .before .before .before .before .before .before .before .before .before .args .report)) (c .before .before .before .before .before .before .loop .words) (c .before .before .before .before .before .before .loop .report) (c .before .before .before .before .before .before .loop .cur .slots) (c .before .before .before .before .before .before .loop .map .parts) (c .before .before .before .before .before .before .loop .place) (c .before .before .before .before .before .before .loop .records) (c .before .before .before .before .before .before .loop .verbs) (c .before .next .given .0 .0) (c .before .next .given .0 .1 .0)
+turning c =
+    record {
+      inv = c .before .before .before .before .before .before .loop .inv;
+      here = sym (c .before .before .before .before .before .next-at .ensures) ∙ c .before .next .given .1;
+      free = sym (c .before .before .before .before .halted .ensures ∙ ap (λ (x : Next). haltedOf (isEnd x) (eqb (c .before .before .before .before .before .before .loop .records) (c .before .before .before .before .before .before .before .before .before .before .before .args .allowance)) (ltb (length (c .before .before .before .before .before .before .loop .report) - c .before .before .before .before .before .before .loop .records * 12) 12)) (c .before .before .before .before .before .next-at .ensures)) ∙ c .before .before .before .if1 .left;
+    }
 
 mul-k : tie.Need-mul-k Inv-loop μ-loop
-mul-k c = omega (arith, known c .1, c .before .before .before .before .before .before .before .before .before .before .before .good .1 .1 .1 .1 .1 .0 .0)
+mul-k c = omega (arith, turn-bounds (turning c) .1, c .before .before .before .before .before .before .before .before .before .before .before .good .1 .1 .1 .1 .1 .0 .0)
 
 add-records : tie.Need-add-records Inv-loop μ-loop
-add-records c = omega (arith, known c .1, c .before .before .before .before .before .before .before .before .before .before .before .good .1 .1 .1 .1 .1 .0 .0)
+add-records c = omega (arith, turn-bounds (turning c) .1, c .before .before .before .before .before .before .before .before .before .before .before .good .1 .1 .1 .1 .1 .0 .0)
 
 stepped-requires : tie.Need-stepped-requires Inv-loop μ-loop
 stepped-requires c κs = search needs
@@ -113,14 +118,14 @@ put-waiting-requires : tie.Need-put-waiting-requires Inv-loop μ-loop
 put-waiting-requires c κs = search needs
 
 add-verbs : tie.Need-add-verbs Inv-loop μ-loop
-add-verbs c = omega (arith, known (c .before .before .before .before .before .before .before .before .before .before) .1, c .before .before .before .before .before .before .before .before .before .before .before .before .before .before .before .before .before .before .before .before .before .good .1 .1 .1 .1 .1 .0 .0, c .before .before .before .before .before .before .before .before .before .before .before .before .before .before .before .before .loop .inv .few)
+add-verbs c = omega (arith, turn-bounds (turning (c .before .before .before .before .before .before .before .before .before .before)) .1, c .before .before .before .before .before .before .before .before .before .before .before .before .before .before .before .before .before .before .before .before .before .good .1 .1 .1 .1 .1 .0 .0, c .before .before .before .before .before .before .before .before .before .before .before .before .before .before .before .before .loop .inv .few)
 
 loop-less : tie.Need-loop-less Inv-loop μ-loop
-loop-less c = omega (arith, known (c .before .before .before .before .before .before .before .before .before .before) .0)
+loop-less c = omega (arith, turn-bounds (turning (c .before .before .before .before .before .before .before .before .before .before)) .0)
 
 loop-again : tie.Need-loop-again Inv-loop μ-loop
 loop-again c =
-    waits-one (c .before .before .before .before .before .before .before .before .before .before .before .before .before .before .before .before .before .before .before .before .before .args .b .slots) (now (c .before .before .before .before .before .before .before .before .before .before .before .before .before .before .before .before .before .before .before .before .before .args .words)) (now (c .before .before .before .before .before .before .before .before .before .before .before .before .before .before .before .before .before .before .before .before .before .args .s)) (c .before .before .before .before .before .before .before .before .before .before .before .before .before .before .before .before .before .before .before .before .before .args .at) (c .before .before .before .before .before .before .before .before .before .before .before .before .before .before .before .before .before .before .before .before .before .args .allowance) (now (c .before .before .before .before .before .before .before .before .before .before .before .before .before .before .before .before .before .before .before .before .before .args .report)) (c .before .before .before .before .before .before .before .before .before .before .before .before .before .before .before .before .loop .words) (c .before .before .before .before .before .before .before .before .before .before .before .before .before .before .before .before .loop .report) (c .before .before .before .before .before .before .before .before .before .before .before .before .before .before .before .before .loop .cur .slots) (c .before .before .before .before .before .before .before .before .before .before .before .before .before .before .before .before .loop .map .parts) (c .before .before .before .before .before .before .before .before .before .before .before .before .before .before .before .before .loop .place) (c .before .before .before .before .before .before .before .before .before .before .before .before .before .before .before .before .loop .records) (c .before .before .before .before .before .before .before .before .before .before .before .before .before .before .before .before .loop .verbs) (c .before .before .before .before .before .before .before .before .before .before .before .before .before .before .before .before .loop .inv) _ _ (sym (c .before .before .before .before .before .before .before .before .before .before .before .before .before .before .before .next-at .ensures) ∙ c .before .before .before .before .before .before .before .before .before .before .before .next .given .1) (sym (c .before .before .before .before .before .before .before .before .before .before .before .before .before .before .halted .ensures ∙ ap (λ (x : Next). haltedOf (isEnd x) (eqb (c .before .before .before .before .before .before .before .before .before .before .before .before .before .before .before .before .loop .records) (c .before .before .before .before .before .before .before .before .before .before .before .before .before .before .before .before .before .before .before .before .before .args .allowance)) (ltb (length (c .before .before .before .before .before .before .before .before .before .before .before .before .before .before .before .before .loop .report) - c .before .before .before .before .before .before .before .before .before .before .before .before .before .before .before .before .loop .records * 12) 12)) (c .before .before .before .before .before .before .before .before .before .before .before .before .before .before .before .next-at .ensures)) ∙ c .before .before .before .before .before .before .before .before .before .before .before .before .before .if1 .left)
+    waits-one (turning (c .before .before .before .before .before .before .before .before .before .before))
     _ (c .before .before .before .before .before .before .before .before .before .stepped .ensures) (c .before .before .before .before .before .before .before .before .if2 .taken) _ (c .before .before .before .before .before .still-ahead .ensures) (c .before .before .before .before .if3 .taken) _ (c .before .before .put-waiting .ensures)
 
 aim-requires : tie.Need-aim-requires Inv-loop μ-loop
@@ -158,15 +163,15 @@ verbs-of-requires : tie.Need-verbs-of-requires Inv-loop μ-loop
 verbs-of-requires c κs = search needs
 
 add-verbs-2 : tie.Need-add-verbs-2 Inv-loop μ-loop
-add-verbs-2 c = omega (arith, known (c .before .before .before .before .before .before .before .before .before .before .before .before .before .before .before .before) .1, c .before .before .before .before .before .before .before .before .before .before .before .before .before .before .before .before .before .before .before .before .before .before .before .before .before .before .before .good .1 .1 .1 .1 .1 .0 .0, subst (λ (n : ℕ). n ≤ 1) (sym (c .verbs-of .ensures)) (verb-le _ _), c .before .before .before .before .before .before .before .before .before .before .before .before .before .before .before .before .before .before .before .before .before .before .loop .inv .few)
+add-verbs-2 c = omega (arith, turn-bounds (turning (c .before .before .before .before .before .before .before .before .before .before .before .before .before .before .before .before)) .1, c .before .before .before .before .before .before .before .before .before .before .before .before .before .before .before .before .before .before .before .before .before .before .before .before .before .before .before .good .1 .1 .1 .1 .1 .0 .0, subst (λ (n : ℕ). n ≤ 1) (sym (c .verbs-of .ensures)) (verb-le _ _), c .before .before .before .before .before .before .before .before .before .before .before .before .before .before .before .before .before .before .before .before .before .before .loop .inv .few)
 
 loop-less-2 : tie.Need-loop-less-2 Inv-loop μ-loop
-loop-less-2 c = omega (arith, known (c .before .before .before .before .before .before .before .before .before .before .before .before .before .before .before .before) .0)
+loop-less-2 c = omega (arith, turn-bounds (turning (c .before .before .before .before .before .before .before .before .before .before .before .before .before .before .before .before)) .0)
 
 loop-again-2 : tie.Need-loop-again-2 Inv-loop μ-loop
 loop-again-2 c =
     let v = c .before .before .before .before .before .before .before .before .before .before .visit in
-    plays-one (c .before .before .before .before .before .before .before .before .before .before .before .before .before .before .before .before .before .before .before .before .before .before .before .before .before .before .before .args .b .slots) (now (c .before .before .before .before .before .before .before .before .before .before .before .before .before .before .before .before .before .before .before .before .before .before .before .before .before .before .before .args .words)) (now (c .before .before .before .before .before .before .before .before .before .before .before .before .before .before .before .before .before .before .before .before .before .before .before .before .before .before .before .args .s)) (c .before .before .before .before .before .before .before .before .before .before .before .before .before .before .before .before .before .before .before .before .before .before .before .before .before .before .before .args .at) (c .before .before .before .before .before .before .before .before .before .before .before .before .before .before .before .before .before .before .before .before .before .before .before .before .before .before .before .args .allowance) (now (c .before .before .before .before .before .before .before .before .before .before .before .before .before .before .before .before .before .before .before .before .before .before .before .before .before .before .before .args .report)) (c .before .before .before .before .before .before .before .before .before .before .before .before .before .before .before .before .before .before .before .before .before .before .loop .words) (c .before .before .before .before .before .before .before .before .before .before .before .before .before .before .before .before .before .before .before .before .before .before .loop .report) (c .before .before .before .before .before .before .before .before .before .before .before .before .before .before .before .before .before .before .before .before .before .before .loop .cur .slots) (c .before .before .before .before .before .before .before .before .before .before .before .before .before .before .before .before .before .before .before .before .before .before .loop .map .parts) (c .before .before .before .before .before .before .before .before .before .before .before .before .before .before .before .before .before .before .before .before .before .before .loop .place) (c .before .before .before .before .before .before .before .before .before .before .before .before .before .before .before .before .before .before .before .before .before .before .loop .records) (c .before .before .before .before .before .before .before .before .before .before .before .before .before .before .before .before .before .before .before .before .before .before .loop .verbs) (c .before .before .before .before .before .before .before .before .before .before .before .before .before .before .before .before .before .before .before .before .before .before .loop .inv) _ _ (sym (c .before .before .before .before .before .before .before .before .before .before .before .before .before .before .before .before .before .before .before .before .before .next-at .ensures) ∙ c .before .before .before .before .before .before .before .before .before .before .before .before .before .before .before .before .before .next .given .1) (sym (c .before .before .before .before .before .before .before .before .before .before .before .before .before .before .before .before .before .before .before .before .halted .ensures ∙ ap (λ (x : Next). haltedOf (isEnd x) (eqb (c .before .before .before .before .before .before .before .before .before .before .before .before .before .before .before .before .before .before .before .before .before .before .loop .records) (c .before .before .before .before .before .before .before .before .before .before .before .before .before .before .before .before .before .before .before .before .before .before .before .before .before .before .before .args .allowance)) (ltb (length (c .before .before .before .before .before .before .before .before .before .before .before .before .before .before .before .before .before .before .before .before .before .before .loop .report) - c .before .before .before .before .before .before .before .before .before .before .before .before .before .before .before .before .before .before .before .before .before .before .loop .records * 12) 12)) (c .before .before .before .before .before .before .before .before .before .before .before .before .before .before .before .before .before .before .before .before .before .next-at .ensures)) ∙ c .before .before .before .before .before .before .before .before .before .before .before .before .before .before .before .before .before .before .before .if1 .left) (c .before .before .before .before .before .before .before .before .before .before .before .before .before .aim .result) (c .before .before .before .before .before .before .before .before .before .before .before .before .before .aim .ensures)
+    plays-one (turning (c .before .before .before .before .before .before .before .before .before .before .before .before .before .before .before .before)) (c .before .before .before .before .before .before .before .before .before .before .before .before .before .aim .result) (c .before .before .before .before .before .before .before .before .before .before .before .before .before .aim .ensures)
     (v .last .1 .1 .1 .0) (v .result .request) (v .result .answer) (v .ensures .1) (ap (λ (d : Seen). d .request) (v .ensures .0)) (ap (λ (d : Seen). d .answer) (v .ensures .0)) (v .kept .1 .1 .1 .0)
     _ _ _ (c .before .before .before .before .before .before .marked .ensures) (c .before .before .before .put .ensures ∙ ap (putOf (c .before .before .before .before .before .before .before .before .before .before .before .before .before .before .before .before .before .before .before .before .before .before .loop .report) (c .before .before .before .before .before .before .before .before .before .before .before .before .before .before .before .before .before .before .before .before .before .before .loop .records * 12)) (c .before .before .before .before .tell .ensures)) (ap (λ (n : ℕ). c .before .before .before .before .before .before .before .before .before .before .before .before .before .before .before .before .before .before .before .before .before .before .loop .verbs + n) (c .verbs-of .ensures))
 
