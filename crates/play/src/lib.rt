@@ -1,5 +1,6 @@
 // A run: plays the records of a schedule one by one and reports each in 12 bytes. The board is in one local and its map in another, so that
-// no record copies the table. It relies on the contracts of `visit`, `slots`, `schedule` and `entry` alone.
+// no record copies the table. A step that goes on waiting, which changes no slot and no word, is reported and counted without a visit. It relies
+// on the contracts of `visit`, `slots`, `schedule` and `entry` alone.
 ghost use mathlib.Core.Path.{_≡_};
 ghost use lib.Dec.{ltb};
 ghost use Rattle.agent.specs.declared.Answer.the-variants.{Waiting};
