@@ -136,9 +136,20 @@ fn plus(m: Map, i: usize, k: u64) -> Map
     if 256 <= i {
         return m;
     }
-    let part = i / 64;
     let mut next = m;
-    next.parts[part] = std::num::wrapping_add_u64(next.parts[part], k);
+    if i < 64 {
+        next.parts[0] = std::num::wrapping_add_u64(next.parts[0], k);
+        return next;
+    }
+    if i < 128 {
+        next.parts[1] = std::num::wrapping_add_u64(next.parts[1], k);
+        return next;
+    }
+    if i < 192 {
+        next.parts[2] = std::num::wrapping_add_u64(next.parts[2], k);
+        return next;
+    }
+    next.parts[3] = std::num::wrapping_add_u64(next.parts[3], k);
     next
 }
 
