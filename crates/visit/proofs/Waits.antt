@@ -25,7 +25,7 @@ use Rattle.slots.specs.Slots.{SLOTS}
 use Rattle.call.specs.declared.Call.{Call}
 use Rattle.call.specs.declared.Call.the-variants.{Open, Step, Release, Show}
 use Rattle.visit.specs.Records.{isRecord, refusalOf}
-use Rattle.visit.specs.Visit.{Visited, visited, aimOf, visitOf, namedVisit, sentVisit}
+use Rattle.visit.specs.Visit.{visited, aimOf, visitOf, namedVisit, sentVisit}
 use Rattle.visit.specs.Waits.{isWaiting, numberAhead, stillAhead, steppedSlot}
 use Rattle.visit.specs.declared.Answer.the-variants.{Told}
 use Rattle.visit.proofs.Sent.{accepted-visit}

@@ -1,6 +1,6 @@
 -- `play::put_waiting` meets its contract: it puts what `tell` says.
 -- Assumes nothing.
-use mathlib.Core.Path.{_≡_, _∙_, ap}
+use mathlib.Core.Path.{_∙_, ap}
 use borrow.Author.Needs.{needs}
 use denote.Ref.{now}
 use Rattle.entry.specs.Entry.{putOf}

@@ -1,6 +1,6 @@
 -- `visit::still_ahead` meets its contract: its tests are those of `stillAhead`, in its order.
 -- Assumes nothing.
-use mathlib.Core.Path.{_≡_, _∙_, sym, ap}
+use mathlib.Core.Path.{_∙_, sym}
 use denote.Ref.{now}
 use borrow.Author.Tests.{not-false}
 use Rattle.visit.specs.Waits.{stillAhead}
