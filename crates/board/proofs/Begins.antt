@@ -8,7 +8,7 @@ use borrow.Author.Tests.{eq-eqb, ne-eqb, lt-ltb, le-ltb}
 use lib.Dec.{eqb}
 use lib.ListN.{length, replicate}
 use Rattle.slots.specs.Slots.{freshSlots}
-use Rattle.visit.specs.declared.Answer.the-variants.{Begun}
+use Rattle.answer.specs.declared.Answer.the-variants.{Begun}
 use Rattle.board.specs.Board.{State, Done, refused, begun}
 
 module _ (s : State) where

@@ -18,9 +18,9 @@ use Rattle.slots.specs.Slots.{SLOTS, inUse, lowestFree}
 use Rattle.slots.proofs.Promises.{lowest-is-free, lower-are-used}
 use Rattle.call.specs.declared.Call.{Call}
 use Rattle.call.specs.declared.Call.the-variants.{Open, Step, Release, Show}
-use Rattle.visit.specs.Records.{RECORDS, isRecord, refusalOf}
-use Rattle.visit.specs.declared.Answer.{Answer}
-use Rattle.visit.specs.declared.Answer.the-variants.{Refused, Begun, Opened, Told, Shown}
+use Rattle.sent.specs.Records.{RECORDS, isRecord, refusalOf}
+use Rattle.answer.specs.declared.Answer.{Answer}
+use Rattle.answer.specs.declared.Answer.the-variants.{Refused, Begun, Opened, Told, Shown}
 use Rattle.board.specs.Board.{State, Done, stateOf, slotAt, refused, begun, opened, sent, stepped, released, shown, played}
 use Rattle.board.specs.Promises.{RefusedKeeps, RefusedBeginKeeps, OpenedIsLowest}
 use Rattle.board.specs.Examples.{RowsHold}

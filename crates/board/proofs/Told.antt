@@ -26,9 +26,9 @@ use Rattle.agent.specs.declared.Taken.{Taken}
 use Rattle.slots.specs.Slots.{SLOTS, inUse, lowestFree}
 use Rattle.call.specs.declared.Call.{Call}
 use Rattle.call.specs.declared.Call.the-variants.{Open, Step, Release, Show}
-use Rattle.visit.specs.Records.{isNothing, isRecord, refusalOf}
-use Rattle.visit.specs.declared.Answer.{Answer}
-use Rattle.visit.specs.declared.Answer.the-variants.{Refused, Begun, Opened, Told, Shown}
+use Rattle.sent.specs.Records.{isNothing, isRecord, refusalOf}
+use Rattle.answer.specs.declared.Answer.{Answer}
+use Rattle.answer.specs.declared.Answer.the-variants.{Refused, Begun, Opened, Told, Shown}
 use Rattle.board.specs.Board.{State, Done, slotAt, refused, opened, sent, stepped, released, shown, played}
 use Rattle.board.specs.Promises.{ToldIsAccepted}
 

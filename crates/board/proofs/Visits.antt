@@ -21,10 +21,11 @@ use Rattle.slots.specs.Map.{lowestZero}
 use Rattle.slots.proofs.Promises.{lowest-is-free, lower-are-used, map-finds-lowest}
 use Rattle.call.specs.declared.Call.{Call}
 use Rattle.call.specs.declared.Call.the-variants.{Open, Step, Release, Show}
-use Rattle.visit.specs.Records.{isRecord, refusalOf}
-use Rattle.visit.specs.Visit.{visited, aimOf, withinBoard, sentVisit, openVisit, showVisit, namedVisit}
-use Rattle.visit.specs.declared.Answer.{Answer}
-use Rattle.visit.specs.declared.Answer.the-variants.{Refused}
+use Rattle.sent.specs.Records.{isRecord, refusalOf}
+use Rattle.sent.specs.Sent.{visited, sentVisit}
+use Rattle.visit.specs.Visit.{aimOf, withinBoard, openVisit, showVisit, namedVisit}
+use Rattle.answer.specs.declared.Answer.{Answer}
+use Rattle.answer.specs.declared.Answer.the-variants.{Refused}
 use Rattle.board.specs.Leaves.{stored}
 use Rattle.board.specs.Promises.{VisitIsPlayed}
 use Rattle.board.specs.Board.{State, refused, sent, opened, stepped, released, shown, slotAt}

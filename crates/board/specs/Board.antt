@@ -13,9 +13,9 @@ use Rattle.agent.specs.declared.Taken.{Taken}
 use Rattle.slots.specs.Slots.{SLOTS, lowestFree, freshSlots}
 use Rattle.call.specs.declared.Call.{Call}
 use Rattle.call.specs.declared.Call.the-variants.{Open, Step, Release, Show}
-use Rattle.visit.specs.Records.{RECORDS, isRecord, refusalOf}
-use Rattle.visit.specs.declared.Answer.{Answer}
-use Rattle.visit.specs.declared.Answer.the-variants.{Refused, Begun, Opened, Told, Shown}
+use Rattle.sent.specs.Records.{RECORDS, isRecord, refusalOf}
+use Rattle.answer.specs.declared.Answer.{Answer}
+use Rattle.answer.specs.declared.Answer.the-variants.{Refused, Begun, Opened, Told, Shown}
 
 -- What the board keeps and what it is lent.
 pub record State : Type 0 where

@@ -10,8 +10,8 @@ use Rattle.request.specs.declared.Phase.the-variants.{Free, Asking, Waiting, He
 use Rattle.slots.specs.Slots.{freshSlots}
 use Rattle.call.specs.declared.Call.{Call}
 use Rattle.call.specs.declared.Call.the-variants.{Open, Step, Release, Show}
-use Rattle.visit.specs.Answers.{saidOf, saidWith}
-use Rattle.visit.specs.declared.Said.{Said}
+use Rattle.answer.specs.Answers.{saidOf, saidWith}
+use Rattle.answer.specs.declared.Said.{Said}
 use Rattle.board.specs.Board.{State, begun, played}
 
 -- A state, a call, and what is said: number, outcome, slot, value.

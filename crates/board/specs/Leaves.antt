@@ -4,7 +4,7 @@ use mathlib.Core.Path.{_≡_}
 use mathlib.Core.List.{List}
 use lib.ListN.{set}
 use Rattle.slots.specs.declared.Board.{Board}
-use Rattle.visit.specs.Visit.{Visited}
+use Rattle.sent.specs.Sent.{Visited}
 use Rattle.board.specs.Board.{State, Done}
 use Rattle.board.specs.declared.Played.{Played}
 

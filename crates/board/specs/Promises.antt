@@ -10,7 +10,7 @@ use Rattle.slots.specs.Map.{mapOf}
 use Rattle.call.specs.declared.Call.{Call}
 use Rattle.call.specs.declared.Call.the-variants.{Open}
 use Rattle.visit.specs.Visit.{aimOf, visitOf}
-use Rattle.visit.specs.declared.Answer.the-variants.{Refused, Opened, Told}
+use Rattle.answer.specs.declared.Answer.the-variants.{Refused, Opened, Told}
 use Rattle.board.specs.Board.{State, stateOf, slotAt, begun, played}
 use Rattle.board.specs.Leaves.{stored}
 

@@ -9,10 +9,10 @@ ghost use Rattle.slots.specs.Slots.{usedSlots};
 ghost use Rattle.visit.specs.Visit.{visitOf};
 ghost use Rattle.board.specs.Board.{begun, opened, stepped, released, shown};
 ghost use Rattle.board.specs.Leaves.{Leaves, lentTo, stored};
+use answer::Answer;
 use call::Call;
 use slots::Board;
 use slots::Map;
-use visit::Answer;
 
 // A board after a call, and the answer.
 pub struct Played {

@@ -8,9 +8,9 @@ use lib.Seq.{sets}
 use Rattle.word.specs.Choice.{if_then_else_}
 use Rattle.call.specs.declared.Call.{Call}
 use Rattle.call.specs.declared.Call.the-variants.{Open, Step, Release, Show}
-use Rattle.visit.specs.Answers.{saidOf}
-use Rattle.visit.specs.declared.Said.{Said}
-use Rattle.visit.specs.declared.Answer.{Answer}
+use Rattle.answer.specs.Answers.{saidOf}
+use Rattle.answer.specs.declared.Said.{Said}
+use Rattle.answer.specs.declared.Answer.{Answer}
 
 -- How long an entry is.
 abbrev pub ENTRY : ℕ

@@ -1,15 +1,15 @@
 // Report entries: 12 bytes for a played record, and whether it sent a verb. It relies on the contract of `visit` alone.
 ghost use mathlib.Core.Path.{_≡_};
 ghost use Rattle.entry.specs.Entry.{verbsOf, putOf};
+use answer::Answer;
+use answer::Said;
 use call::Call;
-use visit::Answer;
-use visit::Said;
 
 // One where an accepted step or release sent a verb, else 0.
 pub fn verbs_of(c: Call, a: Answer) -> usize
     ensures { λ r. ⌜ r ≡ verbsOf c a ⌝ }
 {
-    let said = visit::tell(c, a);
+    let said = answer::tell(c, a);
     if said.number != 0 {
         return 0;
     }

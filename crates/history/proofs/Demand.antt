@@ -19,9 +19,9 @@ use Rattle.agent.specs.declared.Answer.the-variants as tells
 use Rattle.slots.specs.Slots.{SLOTS, lowestFree}
 use Rattle.call.specs.declared.Call.{Call}
 use Rattle.call.specs.declared.Call.the-variants.{Open, Step, Release, Show}
-use Rattle.visit.specs.Records.{isRecord}
-use Rattle.visit.specs.declared.Answer.{Answer}
-use Rattle.visit.specs.declared.Answer.the-variants.{Refused, Begun, Opened, Told, Shown}
+use Rattle.sent.specs.Records.{isRecord}
+use Rattle.answer.specs.declared.Answer.{Answer}
+use Rattle.answer.specs.declared.Answer.the-variants.{Refused, Begun, Opened, Told, Shown}
 use Rattle.board.specs.Board.{State, Done, opened, stepped, released, shown, played}
 use Rattle.history.specs.Tickets.{Given, conflicts, ticketAt, sameKind, EarlierReleased, AllReleased}
 use Rattle.history.specs.Ledger.{Stage, Ledger, mine}

@@ -10,8 +10,8 @@ use Rattle.ticket.specs.declared.Mode.{Mode}
 use Rattle.agent.specs.declared.Answer.the-variants as tells
 use Rattle.call.specs.declared.Call.{Call}
 use Rattle.call.specs.declared.Call.the-variants.{Step}
-use Rattle.visit.specs.declared.Answer.{Answer}
-use Rattle.visit.specs.declared.Answer.the-variants.{Refused, Told}
+use Rattle.answer.specs.declared.Answer.{Answer}
+use Rattle.answer.specs.declared.Answer.the-variants.{Refused, Told}
 use Rattle.board.specs.Board.{State, opened}
 use Rattle.history.specs.Tickets.{Given, EarlierReleased}
 use Rattle.history.specs.Ledger.{Ledger, mine}

@@ -21,7 +21,7 @@ use Rattle.agent.specs.declared.Answer.the-variants as tells
 use Rattle.slots.specs.Slots.{SLOTS, inUse, lowestFree}
 use Rattle.slots.proofs.Promises.{lowest-is-free}
 use Rattle.call.specs.declared.Call.the-variants.{Open, Step, Release, Show}
-use Rattle.visit.specs.Records.{RECORDS, isRecord}
+use Rattle.sent.specs.Records.{RECORDS, isRecord}
 use Rattle.board.specs.Board.{State, Done, stateOf, slotAt, begun, opened, stepped, released, shown}
 use Rattle.history.specs.Tickets.{Given, ticketAt}
 use Rattle.history.specs.Ledger.{Stage, Seat, Ledger, free, blank, put, seated, staged, mine, drawn, grantedOrWaits, kindOf, notedCall, begunWith}

@@ -12,9 +12,9 @@ use lib.ListN.{length}
 use Rattle.ticket.specs.declared.Mode.{Mode}
 use Rattle.agent.specs.declared.Answer.the-variants as tells
 use Rattle.slots.specs.Slots.{SLOTS}
-use Rattle.visit.specs.Records.{RECORDS}
-use Rattle.visit.specs.declared.Answer.{Answer}
-use Rattle.visit.specs.declared.Answer.the-variants.{Refused, Begun, Opened, Told, Shown}
+use Rattle.sent.specs.Records.{RECORDS}
+use Rattle.answer.specs.declared.Answer.{Answer}
+use Rattle.answer.specs.declared.Answer.the-variants.{Refused, Begun, Opened, Told, Shown}
 use Rattle.board.specs.Board.{State, Done, stepped, released, stateOf, played, begun}
 use Rattle.history.specs.History.{fresh}
 use Rattle.history.specs.Tickets.{Given, ticketAt}

@@ -25,8 +25,8 @@ use Rattle.agent.specs.declared.Answer.the-variants as tells
 use Rattle.agent.specs.declared.Taken.{Taken}
 use Rattle.agent.specs.declared.Verb.{Verb}
 use Rattle.slots.specs.Slots.{SLOTS, inUse}
-use Rattle.visit.specs.Records.{isNothing, refusalOf}
-use Rattle.visit.specs.declared.Answer.the-variants.{Told}
+use Rattle.sent.specs.Records.{isNothing, refusalOf}
+use Rattle.answer.specs.declared.Answer.the-variants.{Told}
 use Rattle.board.specs.Board.{State, Done, slotAt, sent, stepped, released, refused}
 use Rattle.history.specs.Tickets.{Given, noTicket, givenOf}
 use Rattle.history.specs.Ledger.{Stage, Seat}

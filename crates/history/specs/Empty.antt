@@ -5,8 +5,8 @@ use mathlib.Core.List.{[], _∷_}
 use Rattle.agent.specs.declared.Answer.the-variants.{Waiting}
 use Rattle.call.specs.declared.Call.{Call}
 use Rattle.call.specs.declared.Call.the-variants.{Open, Step}
-use Rattle.visit.specs.declared.Answer.{Answer}
-use Rattle.visit.specs.declared.Answer.the-variants.{Refused, Told}
+use Rattle.answer.specs.declared.Answer.{Answer}
+use Rattle.answer.specs.declared.Answer.the-variants.{Refused, Told}
 use Rattle.board.specs.Board.{State}
 use Rattle.history.specs.Ledger.{Ledger, mine}
 use Rattle.history.specs.Ledger.Stage.{Asks}

@@ -11,8 +11,8 @@ use Rattle.call.specs.declared.Call.{Call}
 use Rattle.call.specs.declared.Call.the-variants.{Open, Step, Release, Show}
 use Rattle.agent.specs.declared.Answer.{Answer as Tells}
 use Rattle.agent.specs.declared.Answer.the-variants.{WrongPhase, Granted, Waiting, Full, Withdrawn, Released, ClearingDue, Cleared, NotYetClear, Passed}
-use Rattle.visit.specs.declared.Answer.{Answer}
-use Rattle.visit.specs.declared.Answer.the-variants.{Refused, Begun, Opened, Told, Shown}
+use Rattle.answer.specs.declared.Answer.{Answer}
+use Rattle.answer.specs.declared.Answer.the-variants.{Refused, Begun, Opened, Told, Shown}
 use Rattle.history.specs.Tickets.{Given, ticketAt}
 
 -- How far a slot has come: nobody sits there; it asks, waits or holds; a withdrawal is owed; or it clears.

@@ -9,8 +9,8 @@ use Rattle.agent.specs.declared.Answer.the-variants.{Granted, Waiting, Full, Wi
 use Rattle.ticket.specs.declared.Mode.{Mode}
 use Rattle.call.specs.declared.Call.{Call}
 use Rattle.call.specs.declared.Call.the-variants.{Step, Release}
-use Rattle.visit.specs.declared.Answer.{Answer}
-use Rattle.visit.specs.declared.Answer.the-variants.{Refused, Begun, Told}
+use Rattle.answer.specs.declared.Answer.{Answer}
+use Rattle.answer.specs.declared.Answer.the-variants.{Refused, Begun, Told}
 use Rattle.board.specs.Board.{State, stateOf, begun}
 use Rattle.history.specs.Tickets.{ticketAt, givenOf}
 use Rattle.history.specs.Ledger.{Ledger, Stage, mine}

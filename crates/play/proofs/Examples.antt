@@ -5,7 +5,7 @@ use Rattle.ticket.specs.Turn.{turnOf}
 use Rattle.ticket.specs.Ceiling.{clearingWordOf}
 use Rattle.agent.specs.Life.{stepSends, releaseSends, stepTakes, releaseTakes, asked}
 use Rattle.slots.specs.Slots.{lowestFree}
-use Rattle.visit.specs.Records.{refusalOf}
+use Rattle.sent.specs.Records.{refusalOf}
 use Rattle.board.specs.Board.{opened, sent, stepped, released, shown}
 use Rattle.entry.specs.Entry.{entryOf, verbsOf}
 use Rattle.schedule.specs.Schedule.{bodyOf, callAt, nextOf}

@@ -18,13 +18,14 @@ use Rattle.slots.specs.Map.{mapOf, markedOf}
 use Rattle.slots.proofs.Promises.{mark-follows-store}
 use Rattle.call.specs.declared.Call.{Call}
 use Rattle.call.specs.declared.Call.the-variants.{Open, Step, Release, Show}
-use Rattle.visit.specs.Answers.{saidOf}
-use Rattle.visit.specs.Visit.{Visited, aimOf, visitOf}
-use Rattle.visit.specs.Waits.{stillAhead, steppedSlot}
-use Rattle.visit.specs.declared.Said.{Said}
-use Rattle.visit.specs.declared.Answer.{Answer}
-use Rattle.visit.specs.declared.Answer.the-variants.{Told}
-use Rattle.visit.proofs.Waits.{waits-visit}
+use Rattle.answer.specs.Answers.{saidOf}
+use Rattle.sent.specs.Sent.{Visited}
+use Rattle.visit.specs.Visit.{aimOf, visitOf}
+use Rattle.waits.specs.Waits.{stillAhead, steppedSlot}
+use Rattle.answer.specs.declared.Said.{Said}
+use Rattle.answer.specs.declared.Answer.{Answer}
+use Rattle.answer.specs.declared.Answer.the-variants.{Told}
+use Rattle.waits.proofs.Waits.{waits-visit}
 use Rattle.agent.specs.declared.Answer.the-variants.{Waiting}
 use Rattle.slots.specs.Slots.{SLOTS, inUse}
 use Rattle.board.specs.Board.{State, Done, stateOf, played, slotAt}

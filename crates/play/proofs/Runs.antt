@@ -15,8 +15,8 @@ use types.Run.{OneOf}
 use denote.Enum.Declared.{tagOf}
 use Rattle.word.specs.Choice.{if_then_else_}
 use Rattle.call.specs.declared.Call.{Call}
-use Rattle.visit.specs.Answers.{saidOf}
-use Rattle.visit.specs.declared.Answer.{Answer}
+use Rattle.answer.specs.Answers.{saidOf}
+use Rattle.answer.specs.declared.Answer.{Answer}
 use Rattle.board.specs.Board.{State, stateOf, played}
 use Rattle.entry.specs.Entry.{ENTRY, entryOf, verbsOf}
 use Rattle.schedule.specs.Schedule.{nextOf}

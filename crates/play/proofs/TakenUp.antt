@@ -10,8 +10,8 @@ use native.Mathlib.Nat.{zero-add, suc-add}
 use borrow.Author.Tests.{le-ltb}
 use lib.Dec.{ltb}
 use Rattle.call.specs.declared.Call.{Call}
-use Rattle.visit.specs.Answers.{saidOf}
-use Rattle.visit.specs.declared.Answer.{Answer}
+use Rattle.answer.specs.Answers.{saidOf}
+use Rattle.answer.specs.declared.Answer.{Answer}
 use Rattle.board.specs.Board.{State, stateOf, played}
 use Rattle.entry.specs.Entry.{ENTRY, entryOf, verbsOf}
 use Rattle.schedule.specs.Schedule.{nextOf}

@@ -6,8 +6,8 @@ use lib.Dec.{ltb}
 use lib.ListN.{length, drop}
 use Rattle.request.specs.declared.Request.{Request}
 use Rattle.call.specs.declared.Call.{Call}
-use Rattle.visit.specs.Answers.{saidOf}
-use Rattle.visit.specs.declared.Answer.{Answer}
+use Rattle.answer.specs.Answers.{saidOf}
+use Rattle.answer.specs.declared.Answer.{Answer}
 use Rattle.board.specs.Board.{State, Done, stateOf, played}
 use Rattle.schedule.specs.Schedule.{nextOf}
 use Rattle.schedule.specs.declared.Next.{Next}

@@ -4,8 +4,8 @@
 ghost use mathlib.Core.Path.{_≡_};
 ghost use lib.Dec.{ltb};
 ghost use Rattle.agent.specs.declared.Answer.the-variants.{Waiting};
-ghost use Rattle.visit.specs.Answers.{saidOf};
-ghost use Rattle.visit.specs.declared.Answer.the-variants.{Told};
+ghost use Rattle.answer.specs.Answers.{saidOf};
+ghost use Rattle.answer.specs.declared.Answer.the-variants.{Told};
 ghost use Rattle.entry.specs.Entry.{putOf};
 ghost use Rattle.play.specs.Halts.{isEnd, haltedOf, leavesOf};
 ghost use Rattle.play.specs.Comes.{Comes};
@@ -68,7 +68,7 @@ fn put_waiting(report: &mut [u8], at: usize, c: Call, ahead: u64)
     entry::put(
         report,
         at,
-        visit::tell(c, visit::Answer::Told(agent::Answer::Waiting(ahead))),
+        answer::tell(c, answer::Answer::Told(agent::Answer::Waiting(ahead))),
     );
 }
 
@@ -113,9 +113,9 @@ pub fn run(
         let k = records * 12;
         records += 1;
         place = after;
-        let n = visit::stepped(c);
+        let n = waits::stepped(c);
         if n < 256 {
-            let ahead = visit::still_ahead(cur.slots[n], words);
+            let ahead = waits::still_ahead(cur.slots[n], words);
             if ahead != 0 {
                 put_waiting(report, k, c, ahead);
                 verbs += 1;
@@ -129,7 +129,7 @@ pub fn run(
         let answer = d.answer;
         cur.slots[i] = request;
         map = slots::marked(map, i, q, request);
-        entry::put(report, k, visit::tell(c, answer));
+        entry::put(report, k, answer::tell(c, answer));
         verbs += entry::verbs_of(c, answer);
     }
 }

@@ -16,8 +16,8 @@ use Rattle.request.specs.declared.Request.{Request}
 use Rattle.agent.specs.declared.Answer.the-variants as tells
 use Rattle.slots.specs.Slots.{lowestFree}
 use Rattle.call.specs.declared.Call.the-variants.{Open, Step, Release}
-use Rattle.visit.specs.declared.Answer.{Answer}
-use Rattle.visit.specs.declared.Answer.the-variants.{Opened, Told}
+use Rattle.answer.specs.declared.Answer.{Answer}
+use Rattle.answer.specs.declared.Answer.the-variants.{Opened, Told}
 use Rattle.board.specs.Board.{State, stateOf, opened, stepped, released}
 use Rattle.history.specs.Tickets.{Given, ticketAt, counted, givenOf, EarlierReleased}
 use Rattle.history.specs.Ledger.{Seat, Ledger, blank, free, seated, drawn, ticketReleased, releasedAt, notedCall}

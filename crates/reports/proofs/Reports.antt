@@ -10,8 +10,8 @@ use lib.Dec.{ltb}
 use lib.ListN.{length, take, drop, length-append}
 use lib.Seq.{take-at, drop-append-add}
 use Rattle.call.specs.declared.Call.{Call}
-use Rattle.visit.specs.Answers.{saidOf}
-use Rattle.visit.specs.declared.Said.{Said}
+use Rattle.answer.specs.Answers.{saidOf}
+use Rattle.answer.specs.declared.Said.{Said}
 use Rattle.board.specs.Board.{State, stateOf, played}
 use Rattle.entry.specs.Entry.{ENTRY, entryOf}
 use Rattle.schedule.specs.Schedule.{nextOf}

@@ -1,3 +1,2 @@
-pub mod Sent
-pub mod Waits
+pub mod Words
 pub mod Determined

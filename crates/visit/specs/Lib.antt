@@ -1,4 +1,1 @@
-pub mod Records
-pub mod Answers
 pub mod Visit
-pub mod Waits

@@ -1,5 +1,5 @@
 -- A call as a visit of one slot: which slot, and what becomes of its request, of the words, and what is answered. A run plays its records
--- so; `visit-is-played` in proofs/ says that it is the same as playing the call.
+-- so; `VisitIsPlayed` in `board` says that it is the same as playing the call.
 use Prim.Native.Nat.{ℕ, _%_}
 use mathlib.Core.Bool.{Bool, not}
 use mathlib.Core.List.{List}
@@ -15,23 +15,9 @@ use Rattle.slots.specs.Slots.{SLOTS, inUse}
 use Rattle.slots.specs.Map.{lowestZero}
 use Rattle.call.specs.declared.Call.{Call}
 use Rattle.call.specs.declared.Call.the-variants.{Open, Step, Release, Show}
-use Rattle.visit.specs.Records.{isRecord, refusalOf}
-use Rattle.visit.specs.declared.Seen.{Seen}
-use Rattle.visit.specs.declared.Answer.{Answer}
-use Rattle.visit.specs.declared.Answer.the-variants.{Refused, Opened, Told, Shown}
-
--- What a visit leaves.
-pub record Visited : Type 0 where
-  pub request : Request
-  pub words : List ℕ
-  pub answer : Answer
-
-abbrev pub visited : Request → List ℕ → Answer → Visited
-visited q ws a = record { request = q; words = ws; answer = a }
-
--- The part of it that is handed back; the words are lent.
-abbrev pub handed : Visited → Seen
-handed v = record { request = v .request; answer = v .answer }
+use Rattle.answer.specs.declared.Answer.the-variants.{Refused, Opened, Shown}
+use Rattle.sent.specs.Records.{isRecord}
+use Rattle.sent.specs.Sent.{Visited, visited, sentVisit}
 
 -- A slot number as it stands, and slot 0 for one above 255.
 abbrev pub withinBoard : ℕ → ℕ
@@ -43,16 +29,6 @@ aimOf (Open r n) m = withinBoard (lowestZero m)
 aimOf (Step i) m = withinBoard i
 aimOf (Release i) m = withinBoard i
 aimOf (Show r) m = 0
-
-unfoldable pub sentVisit : Request → Verb → (ℕ → Taken) → List ℕ → Visited
-sentVisit q verb takes ws =
-    if eqb (refusalOf q verb ws) 0
-    then
-    visited
-    (takes (getD ws (q .«record») 0) .request)
-    (set ws (q .«record») (leftBy verb (getD ws (q .«record») 0)))
-    (Told (takes (getD ws (q .«record») 0) .answer))
-    else visited q ws (Refused (refusalOf q verb ws))
 
 unfoldable pub openVisit : ℕ → ℕ → ℕ → Request → List ℕ → Visited
 openVisit r m i q ws =

@@ -5,7 +5,7 @@ use mathlib.Core.Bool.{Bool}
 use Prim.Native.Nat.{ℕ}
 use Rattle.word.specs.Choice.{if_then_else_}
 use Rattle.call.specs.declared.Call.{Call}
-use Rattle.visit.specs.declared.Said.{Said}
+use Rattle.answer.specs.declared.Said.{Said}
 use Rattle.entry.specs.Entry.{sends}
 use Rattle.entry.proofs.Stores.{no-verb, some-verb}
 use borrow.Author.Needs.{needs}

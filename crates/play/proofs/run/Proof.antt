@@ -11,7 +11,7 @@ use lib.ListN.{length, length-map}
 use denote.Ref.{now}
 use denote.Enum.Declared.{tagOf}
 use types.Run.{OneOf}
-use Rattle.visit.specs.declared.Seen.{Seen}
+use Rattle.sent.specs.declared.Seen.{Seen}
 use Rattle.board.proofs.Visits.{aim-small}
 use Rattle.entry.specs.Entry.{putOf}
 use Rattle.schedule.specs.declared.Next.{Next}

@@ -5,7 +5,7 @@ use native.Mathlib.Omega.{arith}
 use denote.Ref.{now}
 use lib.ListN.{length}
 use Rattle.visit.specs.Visit.{showVisit}
-use Rattle.visit.proofs.Sent.{record-small, record-lent}
+use Rattle.sent.proofs.Sent.{record-small, record-lent}
 use borrow.Author.Needs.{needs}
 use Rattle.visit.proofs.show_visit.Statement.{statement}
 use Rattle.visit.proofs.show_visit.Tie as tie

@@ -1,0 +1,2 @@
+pub mod Sent
+pub mod Determined

@@ -1,0 +1,114 @@
+// A verb sent for one request and its result taken: what becomes of the request and of the lent words, and the answer. No table of slots is handled
+// here. It relies on the contracts of `word`, `agent` and `slots` alone.
+ghost use mathlib.Core.Path.{_≡_};
+ghost use mathlib.Core.Bool.{_&&_};
+ghost use mathlib.Core.List.{[]};
+ghost use lib.Dec.{ltb};
+ghost use Rattle.agent.specs.Life.{leftBy, stepSends, releaseSends, stepTakes, releaseTakes};
+ghost use Rattle.answer.specs.declared.Answer.the-variants.{Refused, Told};
+ghost use Rattle.sent.specs.Records.{isNothing, refusalOf};
+ghost use Rattle.sent.specs.Sent.{handed, visited, sentVisit};
+use agent::Verb;
+use answer::Answer;
+use request::Request;
+
+// What became of a visited slot's request, and the answer.
+pub struct Seen {
+    pub request: Request,
+    pub answer: Answer,
+}
+
+// Whether a number is a record of so many lent words.
+pub fn is_record(r: u64, lent: usize) -> bool
+    ensures { λ r'. ⌜ r' ≡ ltb r lent && ltb r 4096 ⌝ }
+{
+    r < lent as u64 && r < 4096
+}
+
+fn is_nothing(v: Verb) -> bool
+    ensures { λ r. ⌜ r ≡ isNothing v ⌝ }
+{
+    match v {
+        Verb::Nothing => true,
+        Verb::Add(_) => false,
+        Verb::Read => false,
+        Verb::Swap(_, _) => false,
+    }
+}
+
+// Sends a verb to a word; the word as it was comes back. Nothing leaves the word alone.
+fn send(word: &mut u64, v: Verb) -> u64
+    ensures returned { λ r. ⌜ r ≡ now (word .entry) ⌝ }
+    ensures left { λ r. ⌜ now (word .exit) ≡ leftBy v (now (word .entry)) ⌝ }
+{
+    match v {
+        Verb::Nothing => *word,
+        Verb::Add(k) => word::add(word, k),
+        Verb::Read => word::read(word),
+        Verb::Swap(old, new) => word::swap(word, old, new),
+    }
+}
+
+// Why a verb may not go out for a request, or 0.
+fn refusal(q: Request, v: Verb, words: &[u64]) -> u8
+    ensures { λ r. ⌜ r ≡ refusalOf q v (now (words .entry)) ⌝ }
+{
+    if !slots::in_use(q) {
+        return 4;
+    }
+    if is_nothing(v) {
+        return 5;
+    }
+    if is_record(q.record as u64, words.len()) {
+        return 0;
+    }
+    2
+}
+
+pub fn refused(q: Request, n: u8) -> Seen
+    ensures { λ r. ⌜ r ≡ handed (visited q [] (Refused n)) ⌝ }
+{
+    Seen {
+        request: q,
+        answer: Answer::Refused(n),
+    }
+}
+
+fn told(t: agent::Taken) -> Seen
+    ensures { λ r. ⌜ r ≡ handed (visited (t .request) [] (Told (t .answer))) ⌝ }
+{
+    let request = t.request;
+    let answer = t.answer;
+    Seen {
+        request,
+        answer: Answer::Told(answer),
+    }
+}
+
+pub fn step_visit(q: Request, words: &mut [u64]) -> Seen
+    ensures said { λ r. ⌜ r ≡ handed (sentVisit q (stepSends q) (stepTakes q) (now (words .entry))) ⌝ }
+    ensures left { λ r. ⌜ now (words .exit) ≡ sentVisit q (stepSends q) (stepTakes q) (now (words .entry)) .words ⌝ }
+{
+    let verb = agent::step_sends(q);
+    let n = refusal(q, verb, words);
+    if n != 0 {
+        return refused(q, n);
+    }
+    let r = q.record as usize;
+    let v = send(&mut words[r], verb);
+    told(agent::step_takes(q, v))
+}
+
+pub fn release_visit(q: Request, words: &mut [u64]) -> Seen
+    ensures said { λ r. ⌜ r ≡ handed (sentVisit q (releaseSends q) (releaseTakes q) (now (words .entry))) ⌝ }
+    ensures left { λ r. ⌜ now (words .exit) ≡ sentVisit q (releaseSends q) (releaseTakes q) (now (words .entry)) .words ⌝ }
+{
+    let verb = agent::release_sends(q);
+    let n = refusal(q, verb, words);
+    if n != 0 {
+        return refused(q, n);
+    }
+    let r = q.record as usize;
+    let v = send(&mut words[r], verb);
+    told(agent::release_takes(q, v))
+}
