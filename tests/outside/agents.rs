@@ -1,0 +1,424 @@
+//! Compares the archive of the C agent with the reference's agent: each function on every edge, on numbers by chance, and through whole lives.
+
+#[path = "../reference/agent.rs"]
+#[allow(dead_code)]
+mod agent;
+#[path = "../reference/answer.rs"]
+#[allow(dead_code)]
+mod answer;
+#[path = "../reference/word.rs"]
+#[allow(dead_code)]
+mod word;
+
+use std::process::ExitCode;
+
+use agent::{Phase, Request, Ticket};
+use answer::Answer;
+use word::{Counters, Exclusive, Shared, Verb};
+
+/// The structs of include/brancove.h.
+mod c {
+    #[repr(C)]
+    #[derive(Clone, Copy, Debug, PartialEq, Eq)]
+    pub struct Request {
+        pub record: u16,
+        pub mode: u8,
+        pub phase: u8,
+        pub x: u16,
+        pub s: u16,
+        pub clearing: u64,
+    }
+
+    #[repr(C)]
+    #[derive(Clone, Copy, Debug, PartialEq, Eq)]
+    pub struct Verb {
+        pub kind: u8,
+        pub first: u64,
+        pub second: u64,
+    }
+
+    #[repr(C)]
+    #[derive(Clone, Copy, Debug, PartialEq, Eq)]
+    pub struct Told {
+        pub number: u8,
+        pub outcome: u8,
+        pub ahead: u64,
+    }
+
+    #[repr(C)]
+    #[derive(Clone, Copy, Debug, PartialEq, Eq)]
+    pub struct Counters {
+        pub nx: u16,
+        pub ns: u16,
+        pub mx: u16,
+        pub ms: u16,
+    }
+
+    const _: () = assert!(size_of::<Request>() == 16 && size_of::<Verb>() == 24);
+    const _: () = assert!(size_of::<Told>() == 16 && size_of::<Counters>() == 8);
+
+    extern "C" {
+        pub fn brancove_ask(q: *mut Request, record: u16, mode: u8) -> u8;
+        pub fn brancove_step_sends(q: *mut Request) -> Verb;
+        pub fn brancove_release_sends(q: *mut Request) -> Verb;
+        pub fn brancove_step_takes(q: *mut Request, result: u64) -> Told;
+        pub fn brancove_release_takes(q: *mut Request, result: u64) -> Told;
+        pub fn brancove_split(word: u64) -> Counters;
+    }
+}
+
+fn in_c(request: &Request) -> c::Request {
+    c::Request {
+        record: request.record,
+        mode: request.mode,
+        phase: request.phase,
+        x: request.ticket.x.0,
+        s: request.ticket.s.0,
+        clearing: request.clearing_word,
+    }
+}
+
+fn verb_in_c(verb: Option<Verb>) -> c::Verb {
+    let (kind, first, second) = match verb {
+        None => (0, 0, 0),
+        Some(Verb::Add(number)) => (1, number, 0),
+        Some(Verb::Read) => (2, 0, 0),
+        Some(Verb::Swap { old, new }) => (3, old, new),
+    };
+    c::Verb {
+        kind,
+        first,
+        second,
+    }
+}
+
+fn told_in_c(answer: Answer) -> c::Told {
+    match answer {
+        Ok(outcome) => c::Told {
+            number: 0,
+            outcome: outcome.number(),
+            ahead: outcome.value(),
+        },
+        Err(refusal) => c::Told {
+            number: refusal.number(),
+            outcome: 0,
+            ahead: 0,
+        },
+    }
+}
+
+/// Calls the archive on a request that stands between two others, which must stay.
+fn called<T>(request: &Request, call: impl FnOnce(*mut c::Request) -> T) -> (c::Request, T) {
+    let guard = c::Request {
+        record: 0xa5a5,
+        mode: 0xa5,
+        phase: 0xa5,
+        x: 0xa5a5,
+        s: 0xa5a5,
+        clearing: !0,
+    };
+    let mut table = [guard, in_c(request), guard];
+    let answer = call(&mut table[1]);
+    assert!(
+        table[0] == guard && table[2] == guard,
+        "the archive wrote beside the request {request:?}"
+    );
+    (table[1], answer)
+}
+
+fn same<T: PartialEq + std::fmt::Debug>(
+    what: &str,
+    given: &Request,
+    result: u64,
+    ours: T,
+    theirs: T,
+) -> Result<(), String> {
+    if ours == theirs {
+        return Ok(());
+    }
+    Err(format!(
+        "{what} of {given:?} with result {result:#018x}:\n  the reference {ours:?}\n  the archive   {theirs:?}"
+    ))
+}
+
+/// Sends and takes of step and release.
+fn compare(given: &Request, result: u64) -> Result<(), String> {
+    // SAFETY: here and below the pointer is to one request that lives and is used by nobody else.
+    let theirs = called(given, |q| unsafe { c::brancove_step_sends(q) });
+    same(
+        "step_sends",
+        given,
+        result,
+        (in_c(given), verb_in_c(given.step_verb())),
+        theirs,
+    )?;
+
+    let theirs = called(given, |q| unsafe { c::brancove_release_sends(q) });
+    same(
+        "release_sends",
+        given,
+        result,
+        (in_c(given), verb_in_c(given.release_verb())),
+        theirs,
+    )?;
+
+    let mut after = *given;
+    let told = told_in_c(after.step_take(result));
+    let theirs = called(given, |q| unsafe { c::brancove_step_takes(q, result) });
+    same("step_takes", given, result, (in_c(&after), told), theirs)?;
+
+    let mut after = *given;
+    let told = told_in_c(after.release_take(result));
+    let theirs = called(given, |q| unsafe { c::brancove_release_takes(q, result) });
+    same("release_takes", given, result, (in_c(&after), told), theirs)
+}
+
+fn compare_ask(given: &Request, record: u16, mode: u8) -> Result<(), String> {
+    let ours = match (mode, given.phase()) {
+        (2.., _) => (in_c(given), 3),
+        (_, Phase::Free) => (in_c(&Request::opened(record, mode)), 0),
+        _ => (in_c(given), 5),
+    };
+    let theirs = called(given, |q| unsafe { c::brancove_ask(q, record, mode) });
+    same(
+        "ask",
+        given,
+        u64::from(record) << 8 | u64::from(mode),
+        ours,
+        theirs,
+    )
+}
+
+fn compare_split(word: u64) -> Result<(), String> {
+    let Counters { n_x, n_s, m_x, m_s } = Counters::of(word);
+    let ours = c::Counters {
+        nx: n_x.0,
+        ns: n_s.0,
+        mx: m_x.0,
+        ms: m_s.0,
+    };
+    same("split", &Request::FREE, word, ours, unsafe {
+        c::brancove_split(word)
+    })
+}
+
+const PHASES: [u8; 9] = [0, 1, 2, 3, 4, 5, 6, 7, 255];
+const MODES: [u8; 4] = [0, 1, 2, 255];
+const COUNTS: [u16; 8] = [0, 1, 32_766, 32_767, 32_768, 32_769, 65_534, 65_535];
+
+fn request(record: u16, mode: u8, phase: u8, (x, s): (u16, u16), clearing_word: u64) -> Request {
+    Request {
+        record,
+        mode,
+        ticket: Ticket {
+            x: Exclusive(x),
+            s: Shared(s),
+        },
+        clearing_word,
+        phase,
+    }
+}
+
+fn pairs() -> impl Iterator<Item = (u16, u16)> {
+    COUNTS.into_iter().flat_map(|a| COUNTS.map(|b| (a, b)))
+}
+
+/// Each phase, mode, ticket and word of the edges. The clearing word is none, the result, or near it: in turns, such that each
+/// phase, mode and ticket meets each of the four.
+fn edges() -> Result<u64, String> {
+    let mut requests = 0;
+    for (turn, word) in pairs()
+        .flat_map(|n| pairs().map(move |m| (n, m)))
+        .enumerate()
+    {
+        let ((n_x, n_s), (m_x, m_s)) = word;
+        let result = Counters::new(n_x, n_s, m_x, m_s).word();
+        compare_split(result)?;
+        for (phase, mode) in PHASES
+            .into_iter()
+            .flat_map(|phase| MODES.map(|mode| (phase, mode)))
+        {
+            for (at, ticket) in pairs().enumerate() {
+                let clearing = [0, result, result.wrapping_add(1), !result][(turn + at) % 4];
+                compare(&request(m_s ^ 7, mode, phase, ticket, clearing), result)?;
+                requests += 1;
+            }
+        }
+    }
+    Ok(requests)
+}
+
+fn asks() -> Result<u64, String> {
+    let mut asks = 0;
+    for phase in 0..=255 {
+        for mode in 0..=255 {
+            for kept in MODES {
+                for record in [0, 1, 63, 4_095, 4_096, 65_535] {
+                    compare_ask(&request(9, kept, phase, (3, 4), 5), record, mode)?;
+                    asks += 1;
+                }
+            }
+        }
+    }
+    Ok(asks)
+}
+
+/// Numbers from a seed (splitmix64).
+struct Dice(u64);
+
+impl Dice {
+    fn any(&mut self) -> u64 {
+        self.0 = self.0.wrapping_add(0x9e37_79b9_7f4a_7c15);
+        let mut mixed = self.0;
+        mixed = (mixed ^ (mixed >> 30)).wrapping_mul(0xbf58_476d_1ce4_e5b9);
+        mixed = (mixed ^ (mixed >> 27)).wrapping_mul(0x94d0_49bb_1331_11eb);
+        mixed ^ (mixed >> 31)
+    }
+
+    fn below(&mut self, limit: u64) -> u64 {
+        self.any() % limit
+    }
+
+    /// An edge, a small number, one near the ceiling, or any.
+    fn count(&mut self) -> u16 {
+        match self.below(4) {
+            0 => COUNTS[self.below(8) as usize],
+            1 => self.below(6) as u16,
+            2 => 32_760 + self.below(16) as u16,
+            _ => self.any() as u16,
+        }
+    }
+}
+
+fn by_chance(dice: &mut Dice, requests: u64) -> Result<(), String> {
+    for _ in 0..requests {
+        let (x, s) = (dice.count(), dice.count());
+        // Half of the words are near the ticket, so that each turn comes up.
+        let (n_x, n_s) = match dice.below(2) {
+            0 => (
+                x.wrapping_add(dice.below(3) as u16).wrapping_sub(1),
+                s.wrapping_add(dice.below(3) as u16).wrapping_sub(1),
+            ),
+            _ => (dice.count(), dice.count()),
+        };
+        let result = Counters::new(n_x, n_s, dice.count(), dice.count()).word();
+        let clearing = [0, result, dice.any()][dice.below(3) as usize];
+        let phase = match dice.below(8) {
+            0 => dice.any() as u8,
+            _ => dice.below(6) as u8,
+        };
+        let mode = match dice.below(4) {
+            0 => dice.any() as u8,
+            _ => dice.below(2) as u8,
+        };
+        let given = request(dice.any() as u16, mode, phase, (x, s), clearing);
+        compare(&given, result)?;
+        compare_ask(&given, dice.any() as u16, dice.any() as u8 % 4)?;
+        compare_split(result)?;
+    }
+    Ok(())
+}
+
+/// The archive's requests live on words of their own beside the reference's, from words just below a ceiling.
+fn lives(dice: &mut Dice, calls: u64) -> Result<u64, String> {
+    const REQUESTS: usize = 24;
+    let mut cleared = 0;
+    for _ in 0..calls / 4_000 {
+        let (writers, readers) = match dice.below(3) {
+            0 => (32_760, dice.below(32_000) as u16),
+            1 => (dice.below(32_000) as u16, 32_760),
+            _ => (32_766, 32_766),
+        };
+        let start = Counters::new(writers, readers, writers, readers).word();
+        let (mut word, mut their_word) = (start, start);
+        let mut ours = [Request::FREE; REQUESTS];
+        let mut theirs = [in_c(&Request::FREE); REQUESTS];
+        for _ in 0..4_000 {
+            let at = dice.below(REQUESTS as u64) as usize;
+            let (our, their) = (&mut ours[at], &mut theirs[at]);
+            let given = *our;
+            let (answer, their_answer) = match our.phase() {
+                // Newcomers are few, so that clearing comes.
+                Phase::Free if dice.below(16) != 0 => continue,
+                Phase::Free => {
+                    let mode = dice.below(2) as u8;
+                    *our = Request::opened(at as u16, mode);
+                    let number = unsafe { c::brancove_ask(their, at as u16, mode) };
+                    same("ask", &given, word, 0, number)?;
+                    continue;
+                }
+                Phase::Held => {
+                    let returned = our.release_verb().expect("a verb").send(&mut word);
+                    let verb = unsafe { c::brancove_release_sends(their) };
+                    let their_returned = send(verb, &mut their_word);
+                    let told = unsafe { c::brancove_release_takes(their, their_returned) };
+                    (our.release_take(returned), told)
+                }
+                _ => {
+                    let returned = our.step_verb().expect("a verb").send(&mut word);
+                    let verb = unsafe { c::brancove_step_sends(their) };
+                    let their_returned = send(verb, &mut their_word);
+                    let told = unsafe { c::brancove_step_takes(their, their_returned) };
+                    (our.step_take(returned), told)
+                }
+            };
+            let answer = told_in_c(answer);
+            cleared += u64::from(answer.outcome == 8);
+            same(
+                "a life",
+                &given,
+                word,
+                (in_c(our), answer, word),
+                (*their, their_answer, their_word),
+            )?;
+        }
+    }
+    Ok(cleared)
+}
+
+/// Performs a verb as the header says it.
+fn send(verb: c::Verb, word: &mut u64) -> u64 {
+    let before = *word;
+    match verb.kind {
+        1 => *word = before.wrapping_add(verb.first),
+        3 if before == verb.first => *word = verb.second,
+        _ => {}
+    }
+    before
+}
+
+fn all(seed: u64, requests: u64) -> Result<(), String> {
+    let mut dice = Dice(seed);
+    println!("agents: seed {seed}");
+    println!(
+        "agents: {} requests on edges, four functions each: equal",
+        edges()?
+    );
+    println!("agents: {} asks: equal", asks()?);
+    by_chance(&mut dice, requests)?;
+    println!("agents: {requests} requests by chance, six functions each: equal");
+    let calls = requests / 4_000 * 4_000;
+    println!(
+        "agents: {calls} turns of lives on words near the ceiling, {} times cleared: equal",
+        lives(&mut dice, calls)?
+    );
+    Ok(())
+}
+
+fn main() -> ExitCode {
+    let arguments: Vec<u64> = std::env::args()
+        .skip(1)
+        .map_while(|text| text.parse().ok())
+        .collect();
+    let [seed, requests] = arguments[..] else {
+        eprintln!("agents SEED REQUESTS");
+        return ExitCode::from(2);
+    };
+    match all(seed, requests) {
+        Ok(()) => ExitCode::SUCCESS,
+        Err(said) => {
+            println!("agents: DIFFERENCE in {said}");
+            ExitCode::FAILURE
+        }
+    }
+}

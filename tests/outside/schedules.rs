@@ -1,0 +1,185 @@
+//! Plays drawn schedules with the player and compares its lines with the reference's, one by one.
+
+#[path = "../reference/agent.rs"]
+#[allow(dead_code)]
+mod agent;
+#[path = "../reference/answer.rs"]
+#[allow(dead_code)]
+mod answer;
+#[path = "../reference/board.rs"]
+#[allow(dead_code)]
+mod board;
+mod draw;
+#[path = "../reference/player.rs"]
+#[allow(dead_code)]
+mod player;
+#[path = "../reference/random.rs"]
+#[allow(dead_code)]
+mod random;
+#[path = "../reference/run.rs"]
+#[allow(dead_code)]
+mod run;
+#[path = "../reference/schedule.rs"]
+#[allow(dead_code)]
+mod schedule;
+mod shrink;
+#[path = "../reference/word.rs"]
+#[allow(dead_code)]
+mod word;
+
+use std::io::{Read, Write};
+use std::path::Path;
+use std::process::{Command, ExitCode, Stdio};
+use std::time::Instant;
+
+use draw::{CLASSES, LONG};
+use random::Dice;
+
+const USAGE: &str = "\
+schedules SEED ROUNDS FOLDER PLAYER...        so many schedules of each class, a quarter of the long ones
+schedules SEED calls=CALLS FOLDER PLAYER...   rounds until so many calls were played
+PLAYER is the command that plays standard input. A schedule that differs is written to FOLDER.
+";
+
+/// Tries in making one schedule shorter.
+const TRIES: u32 = 20_000;
+
+/// What a player printed, or why that cannot be told.
+fn printed(player: &[String], schedule: &[u8]) -> Result<Vec<u8>, String> {
+    let mut child = Command::new(&player[0])
+        .args(&player[1..])
+        .stdin(Stdio::piped())
+        .stdout(Stdio::piped())
+        .spawn()
+        .map_err(|error| format!("{} does not start: {error}", player[0]))?;
+    let mut input = child.stdin.take().expect("a pipe");
+    let mut output = child.stdout.take().expect("a pipe");
+    let mut lines = Vec::new();
+    std::thread::scope(|scope| {
+        // A player may end before it has read all: what it printed tells.
+        scope.spawn(move || drop(input.write_all(schedule)));
+        output.read_to_end(&mut lines)
+    })
+    .map_err(|error| format!("its output cannot be read: {error}"))?;
+    let status = child.wait().map_err(|error| error.to_string())?;
+    match status.success() {
+        true => Ok(lines),
+        false => Err(format!("the player ended with {status}")),
+    }
+}
+
+/// The first difference between the player and the reference, in words.
+fn difference(player: &[String], schedule: &[u8]) -> Option<String> {
+    let expected = player::printed_for(schedule);
+    let found = match printed(player, schedule) {
+        Ok(found) if found == expected.as_bytes() => return None,
+        Ok(found) => String::from_utf8_lossy(&found).into_owned(),
+        Err(said) => return Some(said),
+    };
+    let (mut ours, mut theirs) = (expected.split('\n'), found.split('\n'));
+    let mut line = 1;
+    loop {
+        match (ours.next(), theirs.next()) {
+            (Some(a), Some(b)) if a == b => line += 1,
+            (a, b) => {
+                let [a, b] = [a, b].map(|text| text.unwrap_or("nothing more"));
+                return Some(format!(
+                    "line {line}: the reference has '{a}', the player '{b}'"
+                ));
+            }
+        }
+    }
+}
+
+/// Says what differs, makes the schedule shorter and writes it down.
+fn report(player: &[String], class: &str, schedule: &[u8], said: &str, folder: &Path, seed: u64) {
+    println!(
+        "schedules: DIFFERENCE in '{class}', {} bytes: {said}",
+        schedule.len()
+    );
+    let shortest = shrink::shrunk(schedule, TRIES, |bytes| difference(player, bytes).is_some());
+    let path = folder.join(format!("differs-{seed}.schedule"));
+    let written = std::fs::create_dir_all(folder).and_then(|()| std::fs::write(&path, &shortest));
+    let said = difference(player, &shortest)
+        .unwrap_or("the player does not always answer the same".to_owned());
+    println!(
+        "schedules: the shortest found has {} bytes: {said}",
+        shortest.len()
+    );
+    if shortest.len() <= 100 {
+        let hex: Vec<String> = shortest.iter().map(|byte| format!("{byte:02x}")).collect();
+        println!("schedules: {}", hex.join(" "));
+    }
+    match written {
+        Ok(()) => println!("schedules: it is in {}", path.display()),
+        Err(error) => println!(
+            "schedules: it could not be written to {}: {error}",
+            path.display()
+        ),
+    }
+}
+
+/// When to stop.
+enum Until {
+    Rounds(u64),
+    Calls(u64),
+}
+
+fn compare(seed: u64, until: &Until, folder: &Path, player: &[String]) -> ExitCode {
+    println!("schedules: seed {seed}");
+    let start = Instant::now();
+    let (mut schedules, mut calls, mut said_at) = (0u64, 0u64, 0);
+    for round in 0.. {
+        if match *until {
+            Until::Rounds(most) => round == most,
+            Until::Calls(most) => calls >= most,
+        } {
+            break;
+        }
+        for (at, (class, draw)) in CLASSES.iter().enumerate() {
+            if LONG.contains(&at) && round % 4 != 0 {
+                continue;
+            }
+            let mut dice =
+                Dice::seeded(seed ^ (round * 64 + at as u64).wrapping_mul(0x9e37_79b9_7f4a_7c15));
+            let schedule = draw(&mut dice);
+            if let Some(said) = difference(player, &schedule) {
+                report(player, class, &schedule, &said, folder, seed);
+                return ExitCode::FAILURE;
+            }
+            schedules += 1;
+            calls += player::printed_for(&schedule).lines().count() as u64 - 1;
+        }
+        let seconds = start.elapsed().as_secs();
+        if seconds >= said_at + 20 {
+            said_at = seconds;
+            println!("schedules: {schedules} schedules, {calls} calls so far, equal, {seconds} s");
+        }
+    }
+    println!(
+        "schedules: {schedules} schedules, {calls} calls, each printed line equal, {:.1} s",
+        start.elapsed().as_secs_f64()
+    );
+    ExitCode::SUCCESS
+}
+
+fn main() -> ExitCode {
+    let arguments: Vec<String> = std::env::args().skip(1).collect();
+    let [seed, until, folder, player @ ..] = &arguments[..] else {
+        eprint!("{USAGE}");
+        return ExitCode::from(2);
+    };
+    let until = match until.strip_prefix("calls=") {
+        Some(calls) => calls.parse().map(Until::Calls),
+        None => until.parse().map(Until::Rounds),
+    };
+    match (seed.parse(), until) {
+        (Ok(seed), Ok(until)) if !player.is_empty() => {
+            compare(seed, &until, Path::new(folder), player)
+        }
+        _ => {
+            eprint!("{USAGE}");
+            ExitCode::from(2)
+        }
+    }
+}
