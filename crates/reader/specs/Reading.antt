@@ -1,7 +1,8 @@
 -- What a reader hands out, and where it stands afterwards.
-use Prim.Native.Nat.{ℕ}
-use mathlib.Core.List.{List}
+use Prim.Native.Nat.{ℕ, zero, suc}
+use mathlib.Core.List.{List, [], _∷_, _++_}
 use denote.Ref.{now}
+use Rattle.call.specs.declared.Call.{Call}
 use Rattle.schedule.specs.declared.Next.{Next}
 use Rattle.schedule.specs.declared.Next.the-variants.{Record, End, Unknown, Cut}
 use Rattle.schedule.specs.Schedule.{nextOf}
@@ -19,6 +20,22 @@ placeAfter Cut at = at
 abbrev pub handedOf : List ℕ → ℕ → Handed
 handedOf s at = record { next = nextOf s at; at = placeAfter (nextOf s at) at }
 
+-- What a reader hands out at its place.
+abbrev pub atPlace : Reader → Next
+atPlace r = nextOf (now (r .src)) (r .at)
+
 -- The reader after one reading: the slice is the same, the place is the one after.
 abbrev pub movedOn : Reader → Reader
-movedOn r = record { src = r .src; at = placeAfter (nextOf (now (r .src)) (r .at)) (r .at) }
+movedOn r = record { src = r .src; at = placeAfter (atPlace r) (r .at) }
+
+-- The call of a record, if one was handed out.
+abbrev pub callIn : Next → List Call
+callIn (Record c next) = c ∷ []
+callIn End = []
+callIn Unknown = []
+callIn Cut = []
+
+-- The calls that n readings hand out, one after the other.
+unfoldable pub readings : ℕ → Reader → List Call
+readings zero r = []
+readings (suc n) r = callIn (atPlace r) ++ readings n (movedOn r)

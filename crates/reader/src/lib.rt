@@ -1,8 +1,7 @@
 // A reader over a schedule: it hands out what stands at its place, one after the other, and keeps its place. `read_at` does the work on a
 // slice and a place and is covered; the functions over the struct are thin, each a walk by hand. Callers use `first`, and need none.
 ghost use mathlib.Core.Path.{_≡_};
-ghost use Rattle.schedule.specs.Schedule.{nextOf};
-ghost use Rattle.reader.specs.Reading.{placeAfter, handedOf, movedOn};
+ghost use Rattle.reader.specs.Reading.{placeAfter, handedOf, atPlace, movedOn};
 use schedule::Next;
 
 pub struct Reader<'a> {
@@ -29,10 +28,10 @@ fn place_after(n: Next, at: usize) -> usize
 }
 
 // The work: what stands at a place, and the place after it.
-fn read_at(s: &[u8], at: usize) -> Handed
-    ensures { λ r. ⌜ r ≡ handedOf (now (s .entry)) at ⌝ }
+fn read_at(bytes: &[u8], at: usize) -> Handed
+    ensures { λ r. ⌜ r ≡ handedOf (now (bytes .entry)) at ⌝ }
 {
-    let next = schedule::next_at(s, at);
+    let next = schedule::next_at(bytes, at);
     let after = place_after(next, at);
     Handed {
         next: next,
@@ -48,7 +47,7 @@ pub fn new<'a>(src: &'a [u8], at: usize) -> Reader<'a>
 
 // Hands out what stands at the place, and keeps the place.
 pub fn next<'s, 'a>(r: &'s mut Reader<'a>) -> Next
-    ensures { λ n. ⌜ (n ≡ nextOf (now (now (r .entry) .src)) (now (r .entry) .at)) × (now (r .exit) ≡ movedOn (now (r .entry))) ⌝ }
+    ensures { λ n. ⌜ (n ≡ atPlace (now (r .entry))) × (now (r .exit) ≡ movedOn (now (r .entry))) ⌝ }
 {
     let h = read_at(r.src, r.at);
     r.at = h.at;

@@ -49,8 +49,7 @@ use denote.Triple.Walked.{says, Stays, stay-none, stay-none-slice, walkOf, goes-
 use denote.Exit.{yes}
 use denote.Triple.Clauses.{ensured, lasts}
 use Rattle.schedule.specs.declared.Next.{Next}
-use Rattle.schedule.specs.Schedule.{nextOf}
-use Rattle.reader.specs.Reading.{handedOf, movedOn}
+use Rattle.reader.specs.Reading.{handedOf, atPlace, movedOn}
 use Rattle.reader.specs.declared.Reader.{Reader}
 use Rattle.reader.specs.declared.Handed.{Handed}
 use Rattle.schedule.proofs.Next as N
@@ -160,7 +159,7 @@ module _ {M : Type 1} (𝓤 : URA M) (H : Heap 𝓤) (A : Atoms 𝓤) (W : Given
       nothing ! $ move ! (3 ∷ 0 ∷ []) $ fjoin ! $ nothing ! $ move ! (3 ∷ 0 ∷ []) $ join ! $ move ! (2 ∷ 0 ∷ []) $ join ! $ join ! $ frame ! $ done !
 
   -- the two facts are the contract's
-  agree : (r z : Reader) (t : Next) → Made r → (t ≡ nextOf (now (r .src)) (r .at)) × (z ≡ movedOn r) → _≡_ {A = Handed} (record { next = t; at = z .at }) found
+  agree : (r z : Reader) (t : Next) → Made r → (t ≡ atPlace r) × (z ≡ movedOn r) → _≡_ {A = Handed} (record { next = t; at = z .at }) found
   agree r z t e f = (λ i. record { next = f .0 i; at = f .1 i .at }) ∙ (λ i. handedOf (now (e .0 i)) (e .1 i))
 
   -- the result's machine value, of the enum's and the number
@@ -203,8 +202,8 @@ module _ {M : Type 1} (𝓤 : URA M) (H : Heap 𝓤) (A : Atoms 𝓤) (W : Given
         -- [what `next` asks; the lender's part; the rest of a's; …; what s owns; _7; …; _6; …; _5; …; _4; …; …; _2; …; _1; …; _0; …]
         calls-at ! fm (NextC 𝓤 H A at-mem run) known-next (to-next a r l₃ δ) (and-then ! (load ! (from ! (stop !)) (look ! 7 refl)) (no-more !)) (λ w.
         use1 W (later (some (λ (t : Next). ((‵ (flft (a ∷ κ) half) ⊛ ‵ (flft κ half′) ⊛ ‵ ftrue) ⊛ ‵ (N.the-row .own t (w ∷ []))) ⊛ raw (ensured 𝓤 H A next.ended (next.clauses 𝓤 H A at-mem run) (a ∷ κ, (κ, tt)) (lent-at r l₃ δ, tt) tt t)))) (id⊢ 𝓤 _) $ await ! tt $ pick ! (λ t.
-        split ! $ move ! (1 ∷ []) $ use1 W (some (λ (zs : Reader × Unit {0}). ‵ (lasts next.ended (a ∷ κ, (κ, tt)) (lent-at r l₃ δ, tt) zs) ⊛ raw (fact 𝓤 ((t ≡ nextOf (now (r .src)) (r .at)) × (zs .0 ≡ movedOn r))))) (id⊢ 𝓤 _) $ pick ! (λ zs.
-        split ! $ move ! (1 ∷ []) $ heard ! ((t ≡ nextOf (now (r .src)) (r .at)) × (zs .0 ≡ movedOn r)) (λ f. fsplit ! $ move ! (2 ∷ []) $ split ! $ move ! (1 ∷ []) $
+        split ! $ move ! (1 ∷ []) $ use1 W (some (λ (zs : Reader × Unit {0}). ‵ (lasts next.ended (a ∷ κ, (κ, tt)) (lent-at r l₃ δ, tt) zs) ⊛ raw (fact 𝓤 ((t ≡ atPlace r) × (zs .0 ≡ movedOn r))))) (id⊢ 𝓤 _) $ pick ! (λ zs.
+        split ! $ move ! (1 ∷ []) $ heard ! ((t ≡ atPlace r) × (zs .0 ≡ movedOn r)) (λ f. fsplit ! $ move ! (2 ∷ []) $ split ! $ move ! (1 ∷ []) $
         -- [the answer; the tokens; the last value; …; the lender's part; the rest of a's; …; what s owns; _7; …; _6; …; _5; …; _4; …; …; _2; …; _1; …; _0; …]
         peeks ! N.the-row (Is N.the-row) (shows 𝓤 H A N.the-row) t (w ∷ []) (λ is′.
         land ! (from ! (stop !)) (init ! 14 refl (EL.lawful N.the-type N′.the-laws 𝓤 H A W tt .typed t _ is′ .0)) $
