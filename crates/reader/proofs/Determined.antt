@@ -13,7 +13,7 @@ use Rattle.reader.proofs.first.Kinds as first-kinds
 use Rattle.reader.proofs.first.Reads as first-reads
 
 new-determined : DeterminedOf new.ended new-reads.Post
-new-determined κs a z z′ ws ws′ p q = ((λ i. record { src = only-one (p .0) (q .0) i; at = only-one (p .1) (q .1) i }), refl)
+new-determined κs a z z′ ws ws′ p q = (only-one p q, refl)
 
 next-determined : DeterminedOf next.ended next-reads.Post
 next-determined κs a z z′ ws ws′ p q = (only-one (p .0) (q .0), rw (only-one (p .1) (q .1)))

@@ -1,13 +1,17 @@
 -- What a reader hands out, and where it stands afterwards.
 use Prim.Native.Nat.{ℕ, zero, suc}
 use mathlib.Core.List.{List, [], _∷_, _++_}
-use denote.Ref.{now}
+use denote.Ref.{RefT, now}
 use Rattle.call.specs.declared.Call.{Call}
 use Rattle.schedule.specs.declared.Next.{Next}
 use Rattle.schedule.specs.declared.Next.the-variants.{Record, End, Unknown, Cut}
 use Rattle.schedule.specs.Schedule.{nextOf}
 use Rattle.reader.specs.declared.Reader.{Reader}
 use Rattle.reader.specs.declared.Handed.{Handed}
+
+-- The reader of a slice at a place.
+abbrev pub standing : RefT (List ℕ) → ℕ → Reader
+standing s at = record { src = s; at = at }
 
 -- The place after what stands there: past a record; the end, an unknown kind and a cut body leave it.
 abbrev pub placeAfter : Next → ℕ → ℕ

@@ -1,7 +1,7 @@
 // A reader over a schedule: it hands out what stands at its place, one after the other, and keeps its place. `read_at` does the work on a
 // slice and a place and is covered; the functions over the struct are thin, each a walk by hand. Callers use `first`, and need none.
 ghost use mathlib.Core.Path.{_≡_};
-ghost use Rattle.reader.specs.Reading.{placeAfter, handedOf, atPlace, movedOn};
+ghost use Rattle.reader.specs.Reading.{standing, placeAfter, handedOf, atPlace, movedOn};
 use schedule::Next;
 
 pub struct Reader<'a> {
@@ -40,7 +40,7 @@ fn read_at(bytes: &[u8], at: usize) -> Handed
 }
 
 pub fn new<'a>(src: &'a [u8], at: usize) -> Reader<'a>
-    ensures { λ r. ⌜ (r .src ≡ src .entry) × (r .at ≡ at) ⌝ }
+    ensures { λ r. ⌜ r ≡ standing (src .entry) at ⌝ }
 {
     Reader { src: src, at: at }
 }

@@ -1,7 +1,7 @@
 -- `reader::first` meets its contract: a walk of its MIR, by hand. The `Reader` that `new` returns is stored in a local, the local is lent to `next` by `&mut` and comes back at the reader that `next` left, and its place is read. All that the proof knows of `new` and of `next` is that each meets its contract.
 -- `next` asks that the slice outlives the loan, so the loan's lifetime is a ∷ κ: a is made for the call, and κ is the slice's, whose token is halved for it.
 -- Assumes nothing.
-use mathlib.Core.Path.{_≡_, refl, _∙_}
+use mathlib.Core.Path.{_≡_, refl, ap, _∙_}
 use Prim.Native.Nat.{ℕ, _<_, _^_}
 use mathlib.Core.List.{List, [], _∷_}
 use lib.ListN.{length}
@@ -49,7 +49,7 @@ use denote.Triple.Walked.{says, Stays, stay-none, stay-none-slice, walkOf, goes-
 use denote.Exit.{yes}
 use denote.Triple.Clauses.{ensured, lasts}
 use Rattle.schedule.specs.declared.Next.{Next}
-use Rattle.reader.specs.Reading.{handedOf, atPlace, movedOn}
+use Rattle.reader.specs.Reading.{standing, handedOf, atPlace, movedOn}
 use Rattle.reader.specs.declared.Reader.{Reader}
 use Rattle.reader.specs.declared.Handed.{Handed}
 use Rattle.schedule.proofs.Next as N
@@ -121,7 +121,7 @@ module _ {M : Type 1} (𝓤 : URA M) (H : Heap 𝓤) (A : Atoms 𝓤) (W : Given
       move ! (0 ∷ 2 ∷ []) $ fjoin ! $ move ! (2 ∷ 0 ∷ []) $ use2 W (raw (New 𝓤 H A at-mem run .pre to-new)) (qed W ((‵ (flft κ q) ⊛ ‵ ftrue) ∷ ‵ (owns (ShrSlice (named 0) κ u8 ∷ usize ∷ []) (s, (n, tt)) at) ∷ []) ∵ join ! $ frame ! $ done !) $ frame ! $ done !
 
   abbrev Made : Reader → Type 0
-  Made r = (r .src ≡ s) × (r .at ≡ n)
+  Made r = r ≡ standing s n
 
   new-said : (r : Reader) → ent 𝓤 (ensured 𝓤 H A new.ended (new.clauses 𝓤 H A at-mem run) (κ, tt) (s, (n, tt)) tt r) (fact 𝓤 (Made r))
   new-said r = exE 𝓤 _ (λ ws. snd∗ 𝓤 (sem 𝓤 H A (lasts new.ended (κ, tt) (s, (n, tt)) ws)) (fact 𝓤 (Made r)))
@@ -160,7 +160,7 @@ module _ {M : Type 1} (𝓤 : URA M) (H : Heap 𝓤) (A : Atoms 𝓤) (W : Given
 
   -- the two facts are the contract's
   agree : (r z : Reader) (t : Next) → Made r → (t ≡ atPlace r) × (z ≡ movedOn r) → _≡_ {A = Handed} (record { next = t; at = z .at }) found
-  agree r z t e f = (λ i. record { next = f .0 i; at = f .1 i .at }) ∙ (λ i. handedOf (now (e .0 i)) (e .1 i))
+  agree r z t e f = (λ i. record { next = f .0 i; at = f .1 i .at }) ∙ ap (λ (x : Reader). handedOf (now (x .src)) (x .at)) e
 
   -- the result's machine value, of the enum's and the number
   abbrev mach : Val → ℕ → Val
