@@ -1,0 +1,4 @@
+pub mod Takes
+pub mod Sends
+pub mod Readings
+pub mod Determined

@@ -1,0 +1,200 @@
+// The agent for a caller in C. An exported function only loads the request, calls a function by value, stores and returns; the cases
+// stand in the functions by value. It relies on the contracts of `agent`, `request`, `slots` and `word` alone.
+ghost use mathlib.Core.Path.{_≡_};
+ghost use Rattle.word.specs.Word.{splitOf};
+ghost use Rattle.agent.specs.Life.{stepSends, releaseSends, stepTakes, releaseTakes};
+ghost use Rattle.agent_c.specs.Boundary.{verbOf, toldOf, movedOf, askedOf};
+use agent::Answer;
+use agent::Taken;
+use agent::Verb;
+use request::Request;
+use word::Counters;
+
+// A verb: kind 0 none, 1 add (first is the number), 2 read, 3 swap (first is the old word, second the new one).
+#[repr(C)]
+pub struct CVerb {
+    pub kind: u8,
+    pub first: u64,
+    pub second: u64,
+}
+
+// What is told: the document's number and outcome, and the number ahead where the outcome is 3.
+#[repr(C)]
+pub struct CTold {
+    pub number: u8,
+    pub outcome: u8,
+    pub ahead: u64,
+}
+
+// What the request becomes, with what is told.
+struct Moved {
+    request: Request,
+    told: CTold,
+}
+
+// What the request becomes when it is to ask, with the document's number.
+struct Asked {
+    request: Request,
+    number: u8,
+}
+
+// A verb in numbers.
+fn verb_of(v: Verb) -> CVerb
+    ensures { λ r. ⌜ r ≡ verbOf v ⌝ }
+{
+    match v {
+        Verb::Nothing => CVerb {
+            kind: 0,
+            first: 0,
+            second: 0,
+        },
+        Verb::Add(k) => CVerb {
+            kind: 1,
+            first: k,
+            second: 0,
+        },
+        Verb::Read => CVerb {
+            kind: 2,
+            first: 0,
+            second: 0,
+        },
+        Verb::Swap(old, new) => CVerb {
+            kind: 3,
+            first: old,
+            second: new,
+        },
+    }
+}
+
+// An answer in numbers.
+fn told_of(a: Answer) -> CTold
+    ensures { λ r. ⌜ r ≡ toldOf a ⌝ }
+{
+    let n = agent::numbers_of(a);
+    CTold {
+        number: n.number,
+        outcome: n.outcome,
+        ahead: n.value,
+    }
+}
+
+// What a step sends, in numbers.
+fn step_sent(q: Request) -> CVerb
+    ensures { λ r. ⌜ r ≡ verbOf (stepSends q) ⌝ }
+{
+    verb_of(agent::step_sends(q))
+}
+
+// What a release sends, in numbers.
+fn release_sent(q: Request) -> CVerb
+    ensures { λ r. ⌜ r ≡ verbOf (releaseSends q) ⌝ }
+{
+    verb_of(agent::release_sends(q))
+}
+
+// What the agent made of a request, with the answer in numbers.
+fn moved_of(t: Taken) -> Moved
+    ensures { λ r. ⌜ r ≡ movedOf t ⌝ }
+{
+    let request = t.request;
+    let answer = t.answer;
+    Moved {
+        request,
+        told: told_of(answer),
+    }
+}
+
+// What the result of a step's verb makes of the request.
+fn step_moved(q: Request, v: u64) -> Moved
+    ensures { λ r. ⌜ r ≡ movedOf (stepTakes q v) ⌝ }
+{
+    moved_of(agent::step_takes(q, v))
+}
+
+// What the result of a release's verb makes of the request.
+fn release_moved(q: Request, v: u64) -> Moved
+    ensures { λ r. ⌜ r ≡ movedOf (releaseTakes q v) ⌝ }
+{
+    moved_of(agent::release_takes(q, v))
+}
+
+// A mode that is neither 0 nor 1 is refused first, then a request in use.
+fn asked_of(q: Request, record: u16, mode: u8) -> Asked
+    ensures { λ r. ⌜ r ≡ askedOf q «record» mode ⌝ }
+{
+    if 1 < mode {
+        return Asked {
+            request: q,
+            number: 3,
+        };
+    }
+    if slots::in_use(q) {
+        return Asked {
+            request: q,
+            number: 5,
+        };
+    }
+    Asked {
+        request: request::opened(record, mode),
+        number: 0,
+    }
+}
+
+// The request is to ask for a record: 0, and it asks; 3 where the mode is neither 0 nor 1, 5 where the request is in use, and it stays.
+#[no_mangle]
+pub extern "C" fn brancove_ask(q: &mut Request, record: u16, mode: u8) -> u8
+    ensures { λ r. ⌜ (r ≡ askedOf (now (q .entry)) «record» mode .number) × (now (q .exit) ≡ askedOf (now (q .entry)) «record» mode .request) ⌝ }
+{
+    let was = *q;
+    let asked = asked_of(was, record, mode);
+    *q = asked.request;
+    asked.number
+}
+
+// What a step of the request sends; the request stays.
+#[no_mangle]
+pub extern "C" fn brancove_step_sends(q: &mut Request) -> CVerb
+    ensures { λ r. ⌜ (r ≡ verbOf (stepSends (now (q .entry)))) × (now (q .exit) ≡ now (q .entry)) ⌝ }
+{
+    let was = *q;
+    step_sent(was)
+}
+
+// What a release of the request sends; the request stays.
+#[no_mangle]
+pub extern "C" fn brancove_release_sends(q: &mut Request) -> CVerb
+    ensures { λ r. ⌜ (r ≡ verbOf (releaseSends (now (q .entry)))) × (now (q .exit) ≡ now (q .entry)) ⌝ }
+{
+    let was = *q;
+    release_sent(was)
+}
+
+// The result of a step's verb arrives: the request becomes what the agent makes of it, and what it is told comes back.
+#[no_mangle]
+pub extern "C" fn brancove_step_takes(q: &mut Request, result: u64) -> CTold
+    ensures { λ r. ⌜ (r ≡ toldOf (stepTakes (now (q .entry)) result .answer)) × (now (q .exit) ≡ stepTakes (now (q .entry)) result .request) ⌝ }
+{
+    let was = *q;
+    let moved = step_moved(was, result);
+    *q = moved.request;
+    moved.told
+}
+
+// The result of a release's verb arrives: the request becomes what the agent makes of it, and what it is told comes back.
+#[no_mangle]
+pub extern "C" fn brancove_release_takes(q: &mut Request, result: u64) -> CTold
+    ensures { λ r. ⌜ (r ≡ toldOf (releaseTakes (now (q .entry)) result .answer)) × (now (q .exit) ≡ releaseTakes (now (q .entry)) result .request) ⌝ }
+{
+    let was = *q;
+    let moved = release_moved(was, result);
+    *q = moved.request;
+    moved.told
+}
+
+// The four counters of a word.
+#[no_mangle]
+pub extern "C" fn brancove_split(word: u64) -> Counters
+    ensures { λ r. ⌜ r ≡ splitOf word ⌝ }
+{
+    word::split(word)
+}
