@@ -1,4 +1,5 @@
 pub mod Takes
 pub mod Sends
+pub mod Examples
 pub mod Readings
 pub mod Determined

@@ -1,2 +1,3 @@
 pub mod Boundary
+pub mod Examples
 pub mod Determined
