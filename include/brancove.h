@@ -4,6 +4,8 @@
  * The functions are in libagent_c.a (x86-64). Each is proved to do what the rules say, for every content of a request and every
  * 64-bit result. They send nothing, wait for nothing, allocate nothing and keep nothing between calls: the caller owns the request,
  * sends the verb to the record's lock word, and chooses when to try again. Two threads may not use one request at the same time.
+ * That a writer is alone and that no ticket passes is proved for at most 256 requests in use at a time on all words together, every word 0 at first and
+ * touched by these verbs alone.
  *
  *     brancove_request q = {0};
  *     brancove_ask(&q, record, BRANCOVE_WRITER);
