@@ -3,7 +3,6 @@
 use mathlib.Core.Path.{ap}
 use borrow.Author.Needs.{needs}
 use Rattle.agent_c.specs.declared.CTold.{CTold}
-use Rattle.agent_c.specs.declared.Moved.{Moved}
 use Rattle.agent_c.proofs.moved_of.Statement.{statement}
 use Rattle.agent_c.proofs.moved_of.Tie as tie
 
