@@ -1,3 +1,2 @@
 pub mod Boundary
 pub mod Examples
-pub mod Determined

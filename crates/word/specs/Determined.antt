@@ -4,12 +4,25 @@ use Prim.Native.Nat.{ℕ}
 use mathlib.Core.Path.{_≡_, _∙_, sym}
 use mathlib.Core.List.{List}
 use contract.Lifetimes.{Lfts}
+use denote.Triple.Entry.{Args, Res}
 use borrow.Fn.Kinds.{PK, RK, Out, Dens, resT, endedOf}
-use denote.Triple.Clauses.{Lasts, atExit}
+use denote.Triple.Clauses.{Ended, Lasts, AtExit, atExit}
 
 abbrev pub Determined : (n : ℕ) (ps : List (PK n)) (r : RK n) → Out n ps r → Type 0
 Determined n ps r Allows =
     (κs : Lfts n) (a : Dens κs ps) (z z′ : resT r κs .Denot) (ws ws′ : Lasts (endedOf n ps r) κs a) →
     Allows κs a z (atExit (endedOf n ps r) κs a ws) →
     Allows κs a z′ (atExit (endedOf n ps r) κs a ws′) →
+    (z ≡ z′) × (ws ≡ ws′)
+
+-- The same for a contract over a struct that is held or lent, of which the toolchain makes no reading: the contract is then a plain claim of
+-- the lifetimes, the arguments, the result and the parameters at exit.
+abbrev pub Claim : Ended → Type 1
+Claim T = (κs : Lfts (T .signature .lifetimes)) → Args (T .signature) κs → Res (T .signature) κs → AtExit T κs → Type 0
+
+abbrev pub DeterminedOf : (T : Ended) → Claim T → Type 0
+DeterminedOf T Allows =
+    (κs : Lfts (T .signature .lifetimes)) (a : Args (T .signature) κs) (z z′ : Res (T .signature) κs) (ws ws′ : Lasts T κs a) →
+    Allows κs a z (atExit T κs a ws) →
+    Allows κs a z′ (atExit T κs a ws′) →
     (z ≡ z′) × (ws ≡ ws′)
