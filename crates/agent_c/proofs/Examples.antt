@@ -3,7 +3,7 @@
 use mathlib.Core.Path.{refl}
 use Rattle.ticket.specs.Turn.{turnOf}
 use Rattle.ticket.specs.Ceiling.{clearingWordOf}
-use Rattle.agent.specs.Life.{stepSends, releaseSends, stepTakes, releaseTakes, asked}
+use Rattle.life.specs.Life.{stepSends, releaseSends, stepTakes, releaseTakes, asked}
 use Rattle.agent_c.specs.Examples.{StepsHold, ReleasesHold, AsksHold}
 
 pub steps-hold : StepsHold

@@ -36,7 +36,7 @@ use denote.Triple.Walked.{says, Stays, stay-ref, walkOf, AllGo, goes-ref, Walks,
 use Rattle.request.specs.declared.Request.{Request}
 use Rattle.request.proofs.Request as T
 use Rattle.request.proofs.Request.Laws as T′
-use Rattle.agent.specs.declared.Verb.{Verb}
+use Rattle.life.specs.declared.Verb.{Verb}
 use Rattle.agent_c.specs.Boundary.{verbOf}
 use Rattle.agent_c.specs.declared.CVerb.{CVerb}
 use Rattle.agent_c.proofs.CVerb as K

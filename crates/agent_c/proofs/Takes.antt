@@ -40,7 +40,7 @@ use denote.Exit.{yes}
 use Rattle.request.specs.declared.Request.{Request}
 use Rattle.request.proofs.Request as T
 use Rattle.request.proofs.Request.Laws as T′
-use Rattle.agent.specs.declared.Taken.{Taken}
+use Rattle.life.specs.declared.Taken.{Taken}
 use Rattle.agent_c.specs.Boundary.{toldOf, movedOf}
 use Rattle.agent_c.specs.declared.Moved.{Moved}
 use Rattle.agent_c.proofs.CTold as K

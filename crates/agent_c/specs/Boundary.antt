@@ -5,11 +5,11 @@ use Rattle.word.specs.Choice.{if_then_else_}
 use Rattle.request.specs.Request.{openedRequest}
 use Rattle.request.specs.declared.Request.{Request}
 use Rattle.slots.specs.Slots.{inUse}
-use Rattle.agent.specs.Answers.{numbersOf}
-use Rattle.agent.specs.declared.Verb.{Verb}
-use Rattle.agent.specs.declared.Verb.the-variants as verb
-use Rattle.agent.specs.declared.Answer.{Answer}
-use Rattle.agent.specs.declared.Taken.{Taken}
+use Rattle.life.specs.Answers.{numbersOf}
+use Rattle.life.specs.declared.Verb.{Verb}
+use Rattle.life.specs.declared.Verb.the-variants as verb
+use Rattle.life.specs.declared.Answer.{Answer}
+use Rattle.life.specs.declared.Taken.{Taken}
 use Rattle.agent_c.specs.declared.CVerb.{CVerb}
 use Rattle.agent_c.specs.declared.CTold.{CTold}
 use Rattle.agent_c.specs.declared.Moved.{Moved}

@@ -3,8 +3,8 @@ use Prim.Native.Nat.{ℕ, _-_, _^_}
 use mathlib.Core.Path.{_≡_}
 use mathlib.Core.List.{List, [], _∷_, map}
 use Rattle.request.specs.declared.Request.{Request}
-use Rattle.agent.specs.Life.{stepSends, releaseSends, stepTakes, releaseTakes}
-use Rattle.agent.specs.declared.Taken.{Taken}
+use Rattle.life.specs.Life.{stepSends, releaseSends, stepTakes, releaseTakes}
+use Rattle.life.specs.declared.Taken.{Taken}
 use Rattle.agent_c.specs.Boundary.{verbOf, toldOf, askedOf}
 use Rattle.agent_c.specs.declared.CVerb.{CVerb}
 use Rattle.agent_c.specs.declared.CTold.{CTold}

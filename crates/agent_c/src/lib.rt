@@ -2,11 +2,11 @@
 // stand in the functions by value. It relies on the contracts of `agent`, `request`, `slots` and `word` alone.
 ghost use mathlib.Core.Path.{_≡_};
 ghost use Rattle.word.specs.Word.{splitOf};
-ghost use Rattle.agent.specs.Life.{stepSends, releaseSends, stepTakes, releaseTakes};
+ghost use Rattle.life.specs.Life.{stepSends, releaseSends, stepTakes, releaseTakes};
 ghost use Rattle.agent_c.specs.Boundary.{verbOf, toldOf, movedOf, askedOf};
-use agent::Answer;
-use agent::Taken;
-use agent::Verb;
+use life::Answer;
+use life::Taken;
+use life::Verb;
 use request::Request;
 use word::Counters;
 
@@ -70,7 +70,7 @@ fn verb_of(v: Verb) -> CVerb
 fn told_of(a: Answer) -> CTold
     ensures { λ r. ⌜ r ≡ toldOf a ⌝ }
 {
-    let n = agent::numbers_of(a);
+    let n = answer::numbers_of(a);
     CTold {
         number: n.number,
         outcome: n.outcome,
@@ -82,14 +82,14 @@ fn told_of(a: Answer) -> CTold
 fn step_sent(q: Request) -> CVerb
     ensures { λ r. ⌜ r ≡ verbOf (stepSends q) ⌝ }
 {
-    verb_of(agent::step_sends(q))
+    verb_of(sends::step_sends(q))
 }
 
 // What a release sends, in numbers.
 fn release_sent(q: Request) -> CVerb
     ensures { λ r. ⌜ r ≡ verbOf (releaseSends q) ⌝ }
 {
-    verb_of(agent::release_sends(q))
+    verb_of(sends::release_sends(q))
 }
 
 // What the agent made of a request, with the answer in numbers.
@@ -108,14 +108,14 @@ fn moved_of(t: Taken) -> Moved
 fn step_moved(q: Request, v: u64) -> Moved
     ensures { λ r. ⌜ r ≡ movedOf (stepTakes q v) ⌝ }
 {
-    moved_of(agent::step_takes(q, v))
+    moved_of(takes::step_takes(q, v))
 }
 
 // What the result of a release's verb makes of the request.
 fn release_moved(q: Request, v: u64) -> Moved
     ensures { λ r. ⌜ r ≡ movedOf (releaseTakes q v) ⌝ }
 {
-    moved_of(agent::release_takes(q, v))
+    moved_of(takes::release_takes(q, v))
 }
 
 // A mode that is neither 0 nor 1 is refused first, then a request in use.
@@ -128,7 +128,7 @@ fn asked_of(q: Request, record: u16, mode: u8) -> Asked
             number: 3,
         };
     }
-    if slots::in_use(q) {
+    if table::in_use(q) {
         return Asked {
             request: q,
             number: 5,

@@ -1,1 +1,2 @@
+pub mod Verbs
 pub mod Determined

@@ -1,23 +1,68 @@
-// The answer to a call on the board, and the document's numbers for it. It relies on the contract of `agent` and on the type of a call.
+// The answers of the agent and of the board in the document's numbers, and whether a verb was sent. It relies on types alone.
 ghost use mathlib.Core.Path.{_≡_};
-ghost use Rattle.answer.specs.Answers.{namedSlot, saidOf};
+ghost use Rattle.life.specs.Answers.{numbersOf};
+ghost use Rattle.rules.specs.Answers.{namedSlot, saidOf, verbsOf};
 use call::Call;
+use life::Numbers;
+use rules::Answer;
+use rules::Said;
 
-// One answer for all calls on the board. Opened carries the slot, Shown the word, Told what the agent tells.
-pub enum Answer {
-    Refused(u8),
-    Begun,
-    Opened(u8),
-    Told(agent::Answer),
-    Shown(u64),
-}
-
-// An answer in the document's numbers.
-pub struct Said {
-    pub number: u8,
-    pub outcome: u8,
-    pub slot: u8,
-    pub value: u64,
+// The document's numbers for an answer.
+pub fn numbers_of(a: life::Answer) -> Numbers
+    ensures { λ r. ⌜ r ≡ numbersOf a ⌝ }
+{
+    match a {
+        life::Answer::WrongPhase => Numbers {
+            number: 5,
+            outcome: 0,
+            value: 0,
+        },
+        life::Answer::Granted => Numbers {
+            number: 0,
+            outcome: 2,
+            value: 0,
+        },
+        life::Answer::Waiting(ahead) => Numbers {
+            number: 0,
+            outcome: 3,
+            value: ahead,
+        },
+        life::Answer::Full => Numbers {
+            number: 0,
+            outcome: 4,
+            value: 0,
+        },
+        life::Answer::Withdrawn => Numbers {
+            number: 0,
+            outcome: 5,
+            value: 0,
+        },
+        life::Answer::Released => Numbers {
+            number: 0,
+            outcome: 6,
+            value: 0,
+        },
+        life::Answer::ClearingDue => Numbers {
+            number: 0,
+            outcome: 7,
+            value: 0,
+        },
+        life::Answer::Cleared => Numbers {
+            number: 0,
+            outcome: 8,
+            value: 0,
+        },
+        life::Answer::NotYetClear => Numbers {
+            number: 0,
+            outcome: 9,
+            value: 0,
+        },
+        life::Answer::Passed => Numbers {
+            number: 0,
+            outcome: 11,
+            value: 0,
+        },
+    }
 }
 
 // The slot that a call names, as one byte; 0 where it names none.
@@ -57,7 +102,7 @@ pub fn tell(c: Call, a: Answer) -> Said
             value: 0,
         },
         Answer::Told(told) => {
-            let n = agent::numbers_of(told);
+            let n = numbers_of(told);
             Said {
                 number: n.number,
                 outcome: n.outcome,
@@ -71,5 +116,21 @@ pub fn tell(c: Call, a: Answer) -> Said
             slot,
             value: word,
         },
+    }
+}
+
+// One where an accepted step or release sent a verb, else 0.
+pub fn verbs_of(c: Call, a: Answer) -> usize
+    ensures { λ r. ⌜ r ≡ verbsOf c a ⌝ }
+{
+    let said = tell(c, a);
+    if said.number != 0 {
+        return 0;
+    }
+    match c {
+        Call::Open(_, _) => 0,
+        Call::Step(_) => 1,
+        Call::Release(_) => 1,
+        Call::Show(_) => 0,
     }
 }

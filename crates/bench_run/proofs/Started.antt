@@ -5,9 +5,9 @@ use mathlib.Core.Path.{_≡_, _∙_, ap}
 use mathlib.Core.List.{List}
 use Rattle.slots.specs.Slots.{freshSlots}
 use Rattle.slots.specs.declared.Board.{Board}
-use Rattle.board.specs.Board.{State, Done, begun}
+use Rattle.rules.specs.Board.{State, Done, begun}
 use Rattle.board.specs.Leaves.{lentTo}
-use Rattle.play.specs.Run.{Whole}
+use Rattle.runs.specs.Run.{Whole}
 use Rattle.play.specs.Comes.{wholeOf}
 use Rattle.bench_run.specs.Bench.{started}
 

@@ -3,8 +3,8 @@ use Prim.Native.Nat.{ℕ}
 use mathlib.Core.Path.{_≡_}
 use mathlib.Core.List.{List}
 use Rattle.slots.specs.Slots.{freshSlots}
-use Rattle.board.specs.Board.{State, Done, begun}
-use Rattle.play.specs.Run.{Whole, reportOf}
+use Rattle.rules.specs.Board.{State, Done, begun}
+use Rattle.runs.specs.Run.{Whole, reportOf}
 use Rattle.play.specs.Comes.{wholeOf}
 
 -- More records than any report has room for: 2 to the power of 40.

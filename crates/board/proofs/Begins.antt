@@ -8,8 +8,8 @@ use borrow.Author.Tests.{eq-eqb, ne-eqb, lt-ltb, le-ltb}
 use lib.Dec.{eqb}
 use lib.ListN.{length, replicate}
 use Rattle.slots.specs.Slots.{freshSlots}
-use Rattle.answer.specs.declared.Answer.the-variants.{Begun}
-use Rattle.board.specs.Board.{State, Done, refused, begun}
+use Rattle.rules.specs.declared.Answer.the-variants.{Begun}
+use Rattle.rules.specs.Board.{State, Done, refused, begun}
 
 module _ (s : State) where
   pub begun-none : length (s .words) ≡ 0 → begun s ≡ refused 9 s

@@ -7,7 +7,7 @@ use Rattle.word.proofs.Determined.{only-one}
 use mathlib.Core.Path.{_≡_, _∙_, ap}
 use mathlib.Core.List.{List}
 use Rattle.request.specs.declared.Request.{Request}
-use Rattle.answer.specs.declared.Answer.{Answer}
+use Rattle.rules.specs.declared.Answer.{Answer}
 use Rattle.board.specs.declared.Played.{Played}
 use Rattle.board.proofs.begin.Kinds as begin-kinds
 use Rattle.board.proofs.begin.Reads as begin-reads

@@ -1,5 +1,2 @@
-pub mod Visits
 pub mod Begins
-pub mod Promises
-pub mod Told
 pub mod Determined

@@ -2,19 +2,13 @@
 use Prim.Native.Nat.{ℕ}
 use mathlib.Core.Path.{_≡_}
 use mathlib.Core.List.{List}
-use lib.ListN.{set}
 use Rattle.slots.specs.declared.Board.{Board}
-use Rattle.sent.specs.Sent.{Visited}
-use Rattle.board.specs.Board.{State, Done}
+use Rattle.rules.specs.Board.{State, Done}
 use Rattle.board.specs.declared.Played.{Played}
 
 -- A board with the words lent to it.
 abbrev pub lentTo : Board → List ℕ → State
 lentTo b ws = record { slots = b .slots; words = ws }
-
--- What a visit of the slot i leaves of a state.
-abbrev pub stored : State → ℕ → Visited → Done
-stored s i v = record { slots = set (s .slots) i (v .request); words = v .words; answer = v .answer }
 
 pub record Leaves (d : Done) (r : Played) (words′ : List ℕ) : Type 0 where
   pub slots : r .board .slots ≡ d .slots

@@ -1,4 +1,1 @@
-pub mod Board
 pub mod Leaves
-pub mod Promises
-pub mod Examples

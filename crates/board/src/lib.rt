@@ -6,11 +6,12 @@ ghost use Prim.Native.Nat.{_<_};
 ghost use lib.ListN.{length, replicate, getD};
 ghost use Rattle.request.specs.Request.{freeRequest};
 ghost use Rattle.slots.specs.Slots.{usedSlots};
-ghost use Rattle.visit.specs.Visit.{visitOf};
-ghost use Rattle.board.specs.Board.{begun, opened, stepped, released, shown};
-ghost use Rattle.board.specs.Leaves.{Leaves, lentTo, stored};
-use answer::Answer;
+ghost use Rattle.rules.specs.Visit.{visitOf};
+ghost use Rattle.rules.specs.Board.{begun, opened, stepped, released, shown};
+ghost use Rattle.board.specs.Leaves.{Leaves, lentTo};
+ghost use Rattle.rules.specs.Visit.{stored};
 use call::Call;
+use rules::Answer;
 use slots::Board;
 use slots::Map;
 
@@ -49,7 +50,7 @@ pub fn begin(b: Board, words: &mut [u64]) -> Played
     }
     clear(words);
     Played {
-        board: slots::fresh(),
+        board: table::fresh(),
         answer: Answer::Begun,
     }
 }
@@ -76,7 +77,7 @@ pub fn open(b: Board, words: &mut [u64], record: u64, mode: u64) -> Played
     ensures { λ r. ⌜ Leaves (opened «record» mode (lentTo b (now (words .entry)))) r (now (words .exit)) ⌝ }
 {
     let c = Call::Open(record, mode);
-    let i = visit::aim(c, slots::map_of(b));
+    let i = visit::aim(c, slot_map::map_of(b));
     placed(b, words, c, i)
 }
 
@@ -116,6 +117,6 @@ pub fn show(words: &[u64], record: u64) -> Answer
 pub fn used(b: Board) -> u64
     ensures { λ r. ⌜ r ≡ usedSlots (b .slots) ⌝ }
 {
-    let used = slots::count(slots::map_of(b));
+    let used = slot_map::count(slot_map::map_of(b));
     used
 }

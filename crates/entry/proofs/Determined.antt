@@ -4,13 +4,8 @@
 use mathlib.Core.Path.{refl}
 use Rattle.word.specs.Determined.{Determined}
 use Rattle.word.proofs.Determined.{only-one}
-use Rattle.entry.proofs.verbs_of.Kinds as verbs-of-kinds
-use Rattle.entry.proofs.verbs_of.Reads as verbs-of-reads
 use Rattle.entry.proofs.put.Kinds as put-kinds
 use Rattle.entry.proofs.put.Reads as put-reads
-
-verbs-of-determined : Determined 0 verbs-of-kinds.ps verbs-of-kinds.r verbs-of-reads.Post
-verbs-of-determined κs a z z′ ws ws′ p q = (only-one p q, refl)
 
 put-determined : Determined 1 put-kinds.ps put-kinds.r put-reads.Post
 put-determined κs a z z′ ws ws′ p q = (refl, rw (only-one p q))

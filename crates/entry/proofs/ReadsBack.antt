@@ -5,7 +5,7 @@ use Prim.Native.Nat.{ℕ, _+_, _*_, _<_, _/_, _%_, _^_}
 use mathlib.Core.Path.{_≡_, refl, _∙_}
 use native.Mathlib.Nat.{div-div-eq-div-mul, div-add-mod', div-one}
 use native.Mathlib.Omega.{arith}
-use Rattle.answer.specs.declared.Said.{Said}
+use Rattle.rules.specs.declared.Said.{Said}
 use Rattle.entry.specs.Entry.{entryOf}
 use Rattle.entry.specs.Promises.{ReadsBack, EntryReadsBack}
 

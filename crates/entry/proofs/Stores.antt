@@ -4,16 +4,11 @@ use Prim.Native.Nat.{ℕ, suc, _+_, _<_, _≤_}
 use mathlib.Core.Path.{_≡_, refl}
 use mathlib.Core.List.{List, [], _∷_}
 use native.Mathlib.Omega.{arith}
-use borrow.Author.Tests.{le-leb, lt-leb, eq-eqb, ne-eqb}
-use mathlib.Core.Bool.{and-true, and-false}
+use borrow.Author.Tests.{le-leb, lt-leb}
 use lib.ListN.{set, length}
 use lib.Seq.{sets}
-use Rattle.word.specs.Choice.{if_then_else_}
-use Rattle.call.specs.declared.Call.{Call}
-use Rattle.answer.specs.Answers.{saidOf}
-use Rattle.answer.specs.declared.Said.{Said}
-use Rattle.answer.specs.declared.Answer.{Answer}
-use Rattle.entry.specs.Entry.{entryOf, putOf, sends, verbsOf}
+use Rattle.rules.specs.declared.Said.{Said}
+use Rattle.entry.specs.Entry.{entryOf, putOf}
 
 pub twelve :
     (l : List ℕ) (at a b c d e f g h i j k m : ℕ) →
@@ -44,13 +39,3 @@ module _ (report : List ℕ) (at : ℕ) (d : Said) where
   pub fits : at + 12 ≤ length report → putOf report at d ≡ sets report at (entryOf d)
   unfolding putOf
   fits h = rw (le-leb (at + 12) (length report) h)
-
--- what an answer counts
-module _ (c : Call) (a : Answer) where
-  pub no-verb : (saidOf c a .number ≡ 0 → ⊥) → 0 ≡ verbsOf c a
-  unfolding verbsOf
-  no-verb n = rw (ne-eqb (saidOf c a .number) 0 n, and-false (sends c))
-
-  pub some-verb : saidOf c a .number ≡ 0 → verbsOf c a ≡ (if sends c then 1 else 0)
-  unfolding verbsOf
-  some-verb e = rw (eq-eqb (saidOf c a .number) 0 e, and-true (sends c))

@@ -1,16 +1,11 @@
--- A report entry, 12 bytes, and the count of verbs.
+-- A report entry, 12 bytes.
 use Prim.Native.Nat.{ℕ, _+_, _*_, _/_, _%_, _^_}
-use mathlib.Core.Bool.{Bool, true, false, _&&_}
 use mathlib.Core.List.{List, [], _∷_}
-use lib.Dec.{eqb, leb}
+use lib.Dec.{leb}
 use lib.ListN.{length}
 use lib.Seq.{sets}
 use Rattle.word.specs.Choice.{if_then_else_}
-use Rattle.call.specs.declared.Call.{Call}
-use Rattle.call.specs.declared.Call.the-variants.{Open, Step, Release, Show}
-use Rattle.answer.specs.Answers.{saidOf}
-use Rattle.answer.specs.declared.Said.{Said}
-use Rattle.answer.specs.declared.Answer.{Answer}
+use Rattle.rules.specs.declared.Said.{Said}
 
 -- How long an entry is.
 abbrev pub ENTRY : ℕ
@@ -26,16 +21,6 @@ entryOf d =
     d .number ∷ d .outcome ∷ d .slot ∷ 0 ∷
     byteOf 0 (d .value) ∷ byteOf 1 (d .value) ∷ byteOf 2 (d .value) ∷ byteOf 3 (d .value) ∷
     byteOf 4 (d .value) ∷ byteOf 5 (d .value) ∷ byteOf 6 (d .value) ∷ byteOf 7 (d .value) ∷ []
-
--- A step and a release send a verb where they are accepted.
-abbrev pub sends : Call → Bool
-sends (Open r m) = false
-sends (Step i) = true
-sends (Release i) = true
-sends (Show r) = false
-
-unfoldable pub verbsOf : Call → Answer → ℕ
-verbsOf c a = if sends c && eqb (saidOf c a .number) 0 then 1 else 0
 
 -- A report with an entry at a place, where it fits; else the report as it is.
 unfoldable pub putOf : List ℕ → ℕ → Said → List ℕ

@@ -3,7 +3,7 @@ use Prim.Native.Nat.{ℕ, _+_, _*_, _<_, _^_}
 use mathlib.Core.Path.{_≡_}
 use mathlib.Core.List.{List}
 use lib.ListN.{length, getD}
-use Rattle.answer.specs.declared.Said.{Said}
+use Rattle.rules.specs.declared.Said.{Said}
 use Rattle.entry.specs.Entry.{ENTRY, entryOf}
 
 -- A byte of an entry.

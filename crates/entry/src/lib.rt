@@ -1,25 +1,7 @@
-// Report entries: 12 bytes for a played record, and whether it sent a verb. It relies on the contract of `visit` alone.
+// Report entries: 12 bytes for a played record. It relies on types alone.
 ghost use mathlib.Core.Path.{_≡_};
-ghost use Rattle.entry.specs.Entry.{verbsOf, putOf};
-use answer::Answer;
-use answer::Said;
-use call::Call;
-
-// One where an accepted step or release sent a verb, else 0.
-pub fn verbs_of(c: Call, a: Answer) -> usize
-    ensures { λ r. ⌜ r ≡ verbsOf c a ⌝ }
-{
-    let said = answer::tell(c, a);
-    if said.number != 0 {
-        return 0;
-    }
-    match c {
-        Call::Open(_, _) => 0,
-        Call::Step(_) => 1,
-        Call::Release(_) => 1,
-        Call::Show(_) => 0,
-    }
-}
+ghost use Rattle.entry.specs.Entry.{putOf};
+use rules::Said;
 
 // Writes an entry at a place of the report; where it does not fit nothing is written.
 pub fn put(report: &mut [u8], at: usize, d: Said)

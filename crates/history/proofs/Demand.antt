@@ -14,15 +14,15 @@ use lib.Seq.{take-append-seam, take-length}
 use Rattle.word.specs.Choice.{if_then_else_}
 use Rattle.ticket.specs.declared.Mode.{Mode}
 use Rattle.ticket.specs.declared.Mode.the-variants.{Reader, Writer}
-use Rattle.agent.specs.declared.Answer.{Answer as Tells}
-use Rattle.agent.specs.declared.Answer.the-variants as tells
+use Rattle.life.specs.declared.Answer.{Answer as Tells}
+use Rattle.life.specs.declared.Answer.the-variants as tells
 use Rattle.slots.specs.Slots.{SLOTS, lowestFree}
 use Rattle.call.specs.declared.Call.{Call}
 use Rattle.call.specs.declared.Call.the-variants.{Open, Step, Release, Show}
-use Rattle.sent.specs.Records.{isRecord}
-use Rattle.answer.specs.declared.Answer.{Answer}
-use Rattle.answer.specs.declared.Answer.the-variants.{Refused, Begun, Opened, Told, Shown}
-use Rattle.board.specs.Board.{State, Done, opened, stepped, released, shown, played}
+use Rattle.rules.specs.Records.{isRecord}
+use Rattle.rules.specs.declared.Answer.{Answer}
+use Rattle.rules.specs.declared.Answer.the-variants.{Refused, Begun, Opened, Told, Shown}
+use Rattle.rules.specs.Board.{State, Done, opened, stepped, released, shown, played}
 use Rattle.history.specs.Tickets.{Given, conflicts, ticketAt, sameKind, EarlierReleased, AllReleased}
 use Rattle.history.specs.Ledger.{Stage, Ledger, mine}
 use Rattle.history.specs.Ledger.Stage.{Nobody, Asks, Waits, Holds, Owes, Clears}

@@ -7,12 +7,12 @@ use native.Mathlib.Omega.{arith}
 use lib.ListN.{length}
 use Rattle.slots.specs.Slots.{lowestFree}
 use Rattle.ticket.specs.declared.Mode.{Mode}
-use Rattle.agent.specs.declared.Answer.the-variants as tells
+use Rattle.life.specs.declared.Answer.the-variants as tells
 use Rattle.call.specs.declared.Call.{Call}
 use Rattle.call.specs.declared.Call.the-variants.{Step}
-use Rattle.answer.specs.declared.Answer.{Answer}
-use Rattle.answer.specs.declared.Answer.the-variants.{Refused, Told}
-use Rattle.board.specs.Board.{State, opened}
+use Rattle.rules.specs.declared.Answer.{Answer}
+use Rattle.rules.specs.declared.Answer.the-variants.{Refused, Told}
+use Rattle.rules.specs.Board.{State, opened}
 use Rattle.history.specs.Tickets.{Given, EarlierReleased}
 use Rattle.history.specs.Ledger.{Ledger, mine}
 use Rattle.history.specs.Ledger.Stage.{Asks}

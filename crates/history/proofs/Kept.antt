@@ -16,13 +16,13 @@ use Rattle.ticket.specs.declared.Mode.{Mode}
 use Rattle.request.specs.Request.{freeRequest, openedRequest}
 use Rattle.request.specs.declared.Request.{Request}
 use Rattle.request.specs.declared.Phase.the-variants.{Waiting, Held}
-use Rattle.agent.specs.Life.{ticketCounter}
-use Rattle.agent.specs.declared.Answer.the-variants as tells
+use Rattle.life.specs.Life.{ticketCounter}
+use Rattle.life.specs.declared.Answer.the-variants as tells
 use Rattle.slots.specs.Slots.{SLOTS, inUse, lowestFree}
 use Rattle.slots.proofs.Promises.{lowest-is-free}
 use Rattle.call.specs.declared.Call.the-variants.{Open, Step, Release, Show}
-use Rattle.sent.specs.Records.{RECORDS, isRecord}
-use Rattle.board.specs.Board.{State, Done, stateOf, slotAt, begun, opened, stepped, released, shown}
+use Rattle.rules.specs.Records.{RECORDS, isRecord}
+use Rattle.rules.specs.Board.{State, Done, stateOf, slotAt, begun, opened, stepped, released, shown}
 use Rattle.history.specs.Tickets.{Given, ticketAt}
 use Rattle.history.specs.Ledger.{Stage, Seat, Ledger, free, blank, put, seated, staged, mine, drawn, grantedOrWaits, kindOf, notedCall, begunWith}
 use Rattle.history.specs.Ledger.Stage.{Nobody, Asks, Waits, Holds, Owes, Clears}

@@ -17,10 +17,10 @@ use Rattle.ticket.specs.declared.Mode.the-variants.{Reader, Writer}
 use Rattle.request.specs.Request.{freeRequest}
 use Rattle.request.specs.declared.Request.{Request}
 use Rattle.request.specs.declared.Phase.the-variants.{Waiting, Held, Clearing}
-use Rattle.agent.specs.Life.{ticketCounter, releaseCounter}
-use Rattle.agent.specs.declared.Answer.{Answer as Tells}
+use Rattle.life.specs.Life.{ticketCounter, releaseCounter}
+use Rattle.life.specs.declared.Answer.{Answer as Tells}
 use Rattle.slots.specs.Slots.{SLOTS}
-use Rattle.board.specs.Board.{State, stateOf}
+use Rattle.rules.specs.Board.{State, stateOf}
 use Rattle.history.specs.Tickets.{Given, noTicket, ticketAt, sameKind, EarlierReleased}
 use Rattle.history.specs.Ledger.{Stage, Seat, Ledger, free, put, seated, staged, mine, drawn, ticketReleased, ticketsNow, releasedAt}
 use Rattle.history.specs.Ledger.Stage.{Asks, Waits, Holds, Owes, Clears}

@@ -10,12 +10,12 @@ use borrow.Author.Tests.{leb-true, leb-false, ltb-false, eqb-false}
 use lib.Dec.{eqb, leb, ltb}
 use lib.ListN.{length}
 use Rattle.ticket.specs.declared.Mode.{Mode}
-use Rattle.agent.specs.declared.Answer.the-variants as tells
+use Rattle.life.specs.declared.Answer.the-variants as tells
 use Rattle.slots.specs.Slots.{SLOTS}
-use Rattle.sent.specs.Records.{RECORDS}
-use Rattle.answer.specs.declared.Answer.{Answer}
-use Rattle.answer.specs.declared.Answer.the-variants.{Refused, Begun, Opened, Told, Shown}
-use Rattle.board.specs.Board.{State, Done, stepped, released, stateOf, played, begun}
+use Rattle.rules.specs.Records.{RECORDS}
+use Rattle.rules.specs.declared.Answer.{Answer}
+use Rattle.rules.specs.declared.Answer.the-variants.{Refused, Begun, Opened, Told, Shown}
+use Rattle.rules.specs.Board.{State, Done, stepped, released, stateOf, played, begun}
 use Rattle.history.specs.History.{fresh}
 use Rattle.history.specs.Tickets.{Given, ticketAt}
 use Rattle.history.specs.Ledger.{Stage, Ledger, mine}

@@ -19,15 +19,15 @@ use Rattle.ticket.specs.declared.Mode.the-variants.{Reader, Writer}
 use Rattle.request.specs.Request.{phaseNumber, modeOf, freeRequest, inPhase}
 use Rattle.request.specs.declared.Request.{Request}
 use Rattle.request.specs.declared.Phase.the-variants.{Asking, Waiting, Held, Owing, Clearing}
-use Rattle.agent.specs.Life.{leftBy, ticketCounter, releaseCounter, stepSends, releaseSends, stepTakes, releaseTakes, asked, waited, ticketed, turned, becomes}
-use Rattle.agent.specs.declared.Answer.{Answer as Tells}
-use Rattle.agent.specs.declared.Answer.the-variants as tells
-use Rattle.agent.specs.declared.Taken.{Taken}
-use Rattle.agent.specs.declared.Verb.{Verb}
+use Rattle.life.specs.Life.{leftBy, ticketCounter, releaseCounter, stepSends, releaseSends, stepTakes, releaseTakes, asked, waited, ticketed, turned, becomes}
+use Rattle.life.specs.declared.Answer.{Answer as Tells}
+use Rattle.life.specs.declared.Answer.the-variants as tells
+use Rattle.life.specs.declared.Taken.{Taken}
+use Rattle.life.specs.declared.Verb.{Verb}
 use Rattle.slots.specs.Slots.{SLOTS, inUse}
-use Rattle.sent.specs.Records.{isNothing, refusalOf}
-use Rattle.answer.specs.declared.Answer.the-variants.{Told}
-use Rattle.board.specs.Board.{State, Done, slotAt, sent, stepped, released, refused}
+use Rattle.rules.specs.Records.{isNothing, refusalOf}
+use Rattle.rules.specs.declared.Answer.the-variants.{Told}
+use Rattle.rules.specs.Board.{State, Done, slotAt, sent, stepped, released, refused}
 use Rattle.history.specs.Tickets.{Given, noTicket, givenOf}
 use Rattle.history.specs.Ledger.{Stage, Seat}
 use Rattle.history.specs.Ledger.Stage.{Asks, Waits, Holds, Owes, Clears}

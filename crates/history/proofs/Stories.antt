@@ -3,10 +3,10 @@
 use mathlib.Core.Path.{refl}
 use Rattle.ticket.specs.Turn.{turnOf}
 use Rattle.ticket.specs.Ceiling.{clearingWordOf}
-use Rattle.agent.specs.Life.{stepSends, releaseSends, stepTakes, releaseTakes, asked}
+use Rattle.life.specs.Life.{stepSends, releaseSends, stepTakes, releaseTakes, asked}
 use Rattle.slots.specs.Slots.{lowestFree}
-use Rattle.sent.specs.Records.{refusalOf}
-use Rattle.board.specs.Board.{opened, sent, stepped, released}
+use Rattle.rules.specs.Records.{refusalOf}
+use Rattle.rules.specs.Board.{opened, sent, stepped, released}
 use Rattle.history.specs.History.{events, readOff}
 use Rattle.history.specs.Stories.{SlowReaderIsGranted, SlowReaderInTheLedger, WriterWaitsForReaders, ReaderStaysBehindWriter}
 

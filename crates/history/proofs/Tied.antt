@@ -16,7 +16,7 @@ use Rattle.request.specs.declared.Request.{Request}
 use Rattle.request.specs.declared.Phase.{Phase}
 use Rattle.request.specs.declared.Phase.the-variants.{Waiting, Held, Owing, Clearing}
 use Rattle.slots.specs.Slots.{SLOTS}
-use Rattle.board.specs.Board.{State}
+use Rattle.rules.specs.Board.{State}
 use Rattle.history.specs.Tickets.{Given, ticketAt, sameKind, EarlierReleased}
 use Rattle.history.specs.Ledger.{Stage, Seat, Ledger}
 use Rattle.history.specs.Ledger.Stage.{Nobody, Asks, Waits, Holds, Owes, Clears}

@@ -22,7 +22,7 @@ use Rattle.word.proofs.Steps.{step-raises, back-lowers}
 use Rattle.ticket.specs.Ceiling.{CEIL, LAST, fullAt, restOf, clearingWordOf}
 use Rattle.ticket.specs.declared.Mode.{Mode}
 use Rattle.ticket.specs.declared.Mode.the-variants.{Reader, Writer}
-use Rattle.agent.specs.Life.{ticketCounter, releaseCounter}
+use Rattle.life.specs.Life.{ticketCounter, releaseCounter}
 use Rattle.history.specs.Tickets.{Given, ticketAt, sameKind, givenOf, EarlierReleased, AllReleased}
 use Rattle.history.specs.Ledger.{releasedAt}
 use Rattle.history.proofs.Counts.{one, one-le, clash, counted-append, counted-one, counted-nil}

@@ -2,12 +2,12 @@
 use Prim.Native.Nat.{ℕ}
 use mathlib.Core.Path.{_≡_}
 use mathlib.Core.List.{[], _∷_}
-use Rattle.agent.specs.declared.Answer.the-variants.{Waiting}
+use Rattle.life.specs.declared.Answer.the-variants.{Waiting}
 use Rattle.call.specs.declared.Call.{Call}
 use Rattle.call.specs.declared.Call.the-variants.{Open, Step}
-use Rattle.answer.specs.declared.Answer.{Answer}
-use Rattle.answer.specs.declared.Answer.the-variants.{Refused, Told}
-use Rattle.board.specs.Board.{State}
+use Rattle.rules.specs.declared.Answer.{Answer}
+use Rattle.rules.specs.declared.Answer.the-variants.{Refused, Told}
+use Rattle.rules.specs.Board.{State}
 use Rattle.history.specs.Ledger.{Ledger, mine}
 use Rattle.history.specs.Ledger.Stage.{Asks}
 use Rattle.history.specs.History.{ledgerAfter}

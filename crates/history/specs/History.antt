@@ -4,8 +4,8 @@ use mathlib.Core.List.{List, [], _∷_}
 use lib.ListN.{replicate}
 use Rattle.slots.specs.Slots.{freshSlots}
 use Rattle.call.specs.declared.Call.{Call}
-use Rattle.answer.specs.declared.Answer.{Answer}
-use Rattle.board.specs.Board.{State, Done, stateOf, begun, played}
+use Rattle.rules.specs.declared.Answer.{Answer}
+use Rattle.rules.specs.Board.{State, Done, stateOf, begun, played}
 use Rattle.history.specs.Ledger.{Ledger, blank, notedCall, begunWith}
 
 -- A call, or begin.

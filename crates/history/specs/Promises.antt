@@ -9,10 +9,10 @@ use Rattle.word.specs.declared.Counter.{Counter}
 use Rattle.ticket.specs.declared.Mode.the-variants.{Reader, Writer}
 use Rattle.call.specs.declared.Call.{Call}
 use Rattle.call.specs.declared.Call.the-variants.{Step}
-use Rattle.agent.specs.declared.Answer.the-variants.{Granted, Full, Cleared, Passed}
-use Rattle.answer.specs.declared.Answer.{Answer}
-use Rattle.answer.specs.declared.Answer.the-variants.{Told}
-use Rattle.board.specs.Board.{State}
+use Rattle.life.specs.declared.Answer.the-variants.{Granted, Full, Cleared, Passed}
+use Rattle.rules.specs.declared.Answer.{Answer}
+use Rattle.rules.specs.declared.Answer.the-variants.{Told}
+use Rattle.rules.specs.Board.{State}
 use Rattle.history.specs.Tickets.{givenOf, EarlierReleased, AllReleased}
 use Rattle.history.specs.Ledger.{Ledger, mine}
 use Rattle.history.specs.Ledger.Stage.{Asks, Waits, Holds, Owes, Clears}

@@ -5,13 +5,13 @@ use mathlib.Core.Bool.{false}
 use mathlib.Core.Logic.{_⊎_}
 use mathlib.Core.List.{List}
 use lib.ListN.{length}
-use Rattle.agent.specs.declared.Answer.the-variants.{Granted, Waiting, Full, Withdrawn, Released, ClearingDue, Cleared, NotYetClear}
+use Rattle.life.specs.declared.Answer.the-variants.{Granted, Waiting, Full, Withdrawn, Released, ClearingDue, Cleared, NotYetClear}
 use Rattle.ticket.specs.declared.Mode.{Mode}
 use Rattle.call.specs.declared.Call.{Call}
 use Rattle.call.specs.declared.Call.the-variants.{Step, Release}
-use Rattle.answer.specs.declared.Answer.{Answer}
-use Rattle.answer.specs.declared.Answer.the-variants.{Refused, Begun, Told}
-use Rattle.board.specs.Board.{State, stateOf, begun}
+use Rattle.rules.specs.declared.Answer.{Answer}
+use Rattle.rules.specs.declared.Answer.the-variants.{Refused, Begun, Told}
+use Rattle.rules.specs.Board.{State, stateOf, begun}
 use Rattle.history.specs.Tickets.{ticketAt, givenOf}
 use Rattle.history.specs.Ledger.{Ledger, Stage, mine}
 use Rattle.history.specs.Ledger.Stage.{Nobody, Asks, Waits, Holds, Owes, Clears}

@@ -5,9 +5,9 @@ use mathlib.Core.Bool.{true, false}
 use mathlib.Core.List.{List, [], _∷_, map}
 use Rattle.ticket.specs.declared.Mode.the-variants.{Reader, Writer}
 use Rattle.call.specs.declared.Call.the-variants.{Open, Step, Release}
-use Rattle.agent.specs.declared.Answer.the-variants.{Granted, Waiting, Released}
-use Rattle.answer.specs.declared.Answer.{Answer}
-use Rattle.answer.specs.declared.Answer.the-variants.{Opened, Told}
+use Rattle.life.specs.declared.Answer.the-variants.{Granted, Waiting, Released}
+use Rattle.rules.specs.declared.Answer.{Answer}
+use Rattle.rules.specs.declared.Answer.the-variants.{Opened, Told}
 use Rattle.history.specs.Ledger.Stage.{Holds}
 use Rattle.history.specs.History.{Move, Event, fresh, events, ledgerAfter}
 use Rattle.history.specs.History.Move.{Do}

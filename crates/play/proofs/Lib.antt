@@ -1,5 +1,3 @@
 pub mod Runs
 pub mod Playing
-pub mod TakenUp
-pub mod Examples
 pub mod Determined

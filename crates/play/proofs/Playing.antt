@@ -18,20 +18,20 @@ use Rattle.slots.specs.Map.{mapOf, markedOf}
 use Rattle.slots.proofs.Promises.{mark-follows-store}
 use Rattle.call.specs.declared.Call.{Call}
 use Rattle.call.specs.declared.Call.the-variants.{Open, Step, Release, Show}
-use Rattle.answer.specs.Answers.{saidOf}
-use Rattle.sent.specs.Sent.{Visited}
-use Rattle.visit.specs.Visit.{aimOf, visitOf}
+use Rattle.rules.specs.Answers.{saidOf, sends, verbsOf}
+use Rattle.rules.specs.Sent.{Visited}
+use Rattle.rules.specs.Visit.{aimOf, visitOf}
 use Rattle.waits.specs.Waits.{stillAhead, steppedSlot}
-use Rattle.answer.specs.declared.Said.{Said}
-use Rattle.answer.specs.declared.Answer.{Answer}
-use Rattle.answer.specs.declared.Answer.the-variants.{Told}
+use Rattle.rules.specs.declared.Said.{Said}
+use Rattle.rules.specs.declared.Answer.{Answer}
+use Rattle.rules.specs.declared.Answer.the-variants.{Told}
 use Rattle.waits.proofs.Waits.{waits-visit}
-use Rattle.agent.specs.declared.Answer.the-variants.{Waiting}
+use Rattle.life.specs.declared.Answer.the-variants.{Waiting}
 use Rattle.slots.specs.Slots.{SLOTS, inUse}
-use Rattle.board.specs.Board.{State, Done, stateOf, played, slotAt}
-use Rattle.board.specs.Leaves.{stored}
-use Rattle.board.proofs.Visits.{visit-is-played, aim-small}
-use Rattle.entry.specs.Entry.{ENTRY, entryOf, sends, verbsOf, putOf}
+use Rattle.rules.specs.Board.{State, Done, stateOf, played, slotAt}
+use Rattle.rules.specs.Visit.{stored}
+use Rattle.rules.proofs.Visits.{visit-is-played, aim-small}
+use Rattle.entry.specs.Entry.{ENTRY, entryOf, putOf}
 use Rattle.entry.proofs.Stores.{fits}
 use Rattle.schedule.specs.Schedule.{nextOf}
 use Rattle.schedule.specs.declared.Next.the-variants.{Record}
@@ -43,23 +43,8 @@ use Rattle.schedule.proofs.Next as next-type
 use Rattle.play.specs.Comes.{Comes}
 use Rattle.play.specs.declared.Ran.{Ran}
 use Rattle.play.proofs.Runs.{others, plays, halts, leaves}
-use Rattle.play.specs.Run.{Whole, ended, followed, runOf, joined, reportOf}
-
--- what has been played so far, to be put in front of the rest
-abbrev pub soFar : ℕ → ℕ → List ℕ → Whole
-soFar n v e = record { ending = 0; records = n; place = 0; verbs = v; slots = []; words = []; entries = e }
-
-pub same-whole :
-    {n n′ v v′ p : ℕ} {e e′ : List ℕ} {end : ℕ} {l : List Request} {w : List ℕ} →
-    n ≡ n′ →
-    v ≡ v′ →
-    e ≡ e′ →
-    _≡_ {A = Whole} (record { ending = end; records = n; place = p; verbs = v; slots = l; words = w; entries = e })
-    (record { ending = end; records = n′; place = p; verbs = v′; slots = l; words = w; entries = e′ })
-same-whole p q r = cc
-
-pub nothing-yet : (w : Whole) → w ≡ joined (soFar 0 0 []) w
-nothing-yet w = same-whole (sym (zero-add (w .records))) (sym (zero-add (w .verbs))) refl
+use Rattle.runs.specs.Run.{Whole, ended, followed, runOf, joined, reportOf}
+use Rattle.runs.proofs.Wholes.{soFar, same-whole, nothing-yet}
 
 pub one-more :
     (n v : ℕ) (e : List ℕ) (c : Call) (a : Answer) (w : Whole) →

@@ -15,15 +15,15 @@ use types.Run.{OneOf}
 use denote.Enum.Declared.{tagOf}
 use Rattle.word.specs.Choice.{if_then_else_}
 use Rattle.call.specs.declared.Call.{Call}
-use Rattle.answer.specs.Answers.{saidOf}
-use Rattle.answer.specs.declared.Answer.{Answer}
-use Rattle.board.specs.Board.{State, stateOf, played}
-use Rattle.entry.specs.Entry.{ENTRY, entryOf, verbsOf}
+use Rattle.rules.specs.Answers.{saidOf, verbsOf}
+use Rattle.rules.specs.declared.Answer.{Answer}
+use Rattle.rules.specs.Board.{State, stateOf, played}
+use Rattle.entry.specs.Entry.{ENTRY, entryOf}
 use Rattle.schedule.specs.Schedule.{nextOf}
 use Rattle.schedule.specs.declared.Next.{Next}
 use Rattle.schedule.specs.declared.Next.the-variants.{Record, End, Unknown, Cut}
 use Rattle.schedule.proofs.Next as next-type
-use Rattle.play.specs.Run.{Whole, stateAfter, ended, followed, spent, goesOn, runOf, joined}
+use Rattle.runs.specs.Run.{Whole, stateAfter, ended, followed, spent, goesOn, runOf, joined}
 use Rattle.play.specs.Halts.{isEnd, haltedOf, leavesOf}
 
 -- the places of the answers other than a record among the variants

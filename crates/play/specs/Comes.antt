@@ -4,7 +4,7 @@ use mathlib.Core.Path.{_≡_}
 use mathlib.Core.List.{List}
 use lib.ListN.{length}
 use Rattle.request.specs.declared.Request.{Request}
-use Rattle.play.specs.Run.{Whole, runOf, reportOf}
+use Rattle.runs.specs.Run.{Whole, runOf, reportOf}
 use Rattle.play.specs.declared.Ran.{Ran}
 
 -- The run that the definition gives for what was lent and passed.

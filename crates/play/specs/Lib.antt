@@ -1,5 +1,2 @@
-pub mod Run
 pub mod Halts
 pub mod Comes
-pub mod Promises
-pub mod Examples

@@ -3,9 +3,9 @@
 // on the contracts of `visit`, `slots`, `schedule` and `entry` alone.
 ghost use mathlib.Core.Path.{_≡_};
 ghost use lib.Dec.{ltb};
-ghost use Rattle.agent.specs.declared.Answer.the-variants.{Waiting};
-ghost use Rattle.answer.specs.Answers.{saidOf};
-ghost use Rattle.answer.specs.declared.Answer.the-variants.{Told};
+ghost use Rattle.life.specs.declared.Answer.the-variants.{Waiting};
+ghost use Rattle.rules.specs.Answers.{saidOf};
+ghost use Rattle.rules.specs.declared.Answer.the-variants.{Told};
 ghost use Rattle.entry.specs.Entry.{putOf};
 ghost use Rattle.play.specs.Halts.{isEnd, haltedOf, leavesOf};
 ghost use Rattle.play.specs.Comes.{Comes};
@@ -68,7 +68,7 @@ fn put_waiting(report: &mut [u8], at: usize, c: Call, ahead: u64)
     entry::put(
         report,
         at,
-        answer::tell(c, answer::Answer::Told(agent::Answer::Waiting(ahead))),
+        answer::tell(c, rules::Answer::Told(life::Answer::Waiting(ahead))),
     );
 }
 
@@ -84,7 +84,7 @@ pub fn run(
     ensures ran { λ r. ⌜ Comes (b .slots) (now (words .entry)) (now (s .entry)) at allowance (now (report .entry)) r (now (words .exit)) (now (report .exit)) ⌝ }
 {
     let mut cur = b;
-    let mut map = slots::map_of(b);
+    let mut map = slot_map::map_of(b);
     let mut place = at;
     let mut records: usize = 0;
     let mut verbs: usize = 0;
@@ -128,8 +128,8 @@ pub fn run(
         let request = d.request;
         let answer = d.answer;
         cur.slots[i] = request;
-        map = slots::marked(map, i, q, request);
+        map = slot_map::marked(map, i, q, request);
         entry::put(report, k, answer::tell(c, answer));
-        verbs += entry::verbs_of(c, answer);
+        verbs += answer::verbs_of(c, answer);
     }
 }

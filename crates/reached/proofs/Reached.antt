@@ -13,12 +13,12 @@ use Rattle.ticket.specs.declared.Mode.{Mode}
 use Rattle.ticket.specs.declared.Mode.the-variants.{Reader, Writer}
 use Rattle.request.specs.Request.{freeRequest}
 use Rattle.request.specs.declared.Request.{Request}
-use Rattle.agent.specs.declared.Answer.the-variants as tells
+use Rattle.life.specs.declared.Answer.the-variants as tells
 use Rattle.slots.specs.Slots.{lowestFree}
 use Rattle.call.specs.declared.Call.the-variants.{Open, Step, Release}
-use Rattle.answer.specs.declared.Answer.{Answer}
-use Rattle.answer.specs.declared.Answer.the-variants.{Opened, Told}
-use Rattle.board.specs.Board.{State, stateOf, opened, stepped, released}
+use Rattle.rules.specs.declared.Answer.{Answer}
+use Rattle.rules.specs.declared.Answer.the-variants.{Opened, Told}
+use Rattle.rules.specs.Board.{State, stateOf, opened, stepped, released}
 use Rattle.history.specs.Tickets.{Given, ticketAt, counted, givenOf, EarlierReleased}
 use Rattle.history.specs.Ledger.{Seat, Ledger, blank, free, seated, drawn, ticketReleased, releasedAt, notedCall}
 use Rattle.history.specs.Ledger.Stage.{Nobody, Asks, Holds, Clears}

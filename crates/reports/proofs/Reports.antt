@@ -10,14 +10,14 @@ use lib.Dec.{ltb}
 use lib.ListN.{length, take, drop, length-append}
 use lib.Seq.{take-at, drop-append-add}
 use Rattle.call.specs.declared.Call.{Call}
-use Rattle.answer.specs.Answers.{saidOf}
-use Rattle.answer.specs.declared.Said.{Said}
-use Rattle.board.specs.Board.{State, stateOf, played}
+use Rattle.rules.specs.Answers.{saidOf}
+use Rattle.rules.specs.declared.Said.{Said}
+use Rattle.rules.specs.Board.{State, stateOf, played}
 use Rattle.entry.specs.Entry.{ENTRY, entryOf}
 use Rattle.schedule.specs.Schedule.{nextOf}
 use Rattle.schedule.specs.declared.Next.{Next}
 use Rattle.schedule.specs.declared.Next.the-variants.{Record, End, Unknown, Cut}
-use Rattle.play.specs.Run.{Whole, stateAfter, ended, followed, spent, goesOn, runOf}
+use Rattle.runs.specs.Run.{Whole, stateAfter, ended, followed, spent, goesOn, runOf}
 use Rattle.play.specs.Comes.{Comes}
 use Rattle.play.specs.declared.Ran.{Ran}
 use Rattle.history.specs.History.{Move, fresh, after}

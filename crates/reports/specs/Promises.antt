@@ -5,8 +5,8 @@ use mathlib.Core.List.{List, map}
 use lib.ListN.{length, getD, take, drop}
 use Rattle.call.specs.declared.Call.{Call}
 use Rattle.call.specs.declared.Call.the-variants.{Show}
-use Rattle.answer.specs.Answers.{saidOf}
-use Rattle.board.specs.Board.{State}
+use Rattle.rules.specs.Answers.{saidOf}
+use Rattle.rules.specs.Board.{State}
 use Rattle.entry.specs.Entry.{ENTRY, entryOf}
 use Rattle.history.specs.History.{Move, fresh, boardAfter, ledgerAfter, answerAfter}
 use Rattle.history.specs.History.Move.{Do}

@@ -3,8 +3,8 @@ use Prim.Native.Nat.{ℕ, zero, suc, _*_}
 use mathlib.Core.List.{List, [], _∷_, _++_}
 use lib.ListN.{take}
 use Rattle.call.specs.declared.Call.{Call}
-use Rattle.answer.specs.Answers.{saidOf}
-use Rattle.board.specs.Board.{State, stateOf, played}
+use Rattle.rules.specs.Answers.{saidOf}
+use Rattle.rules.specs.Board.{State, stateOf, played}
 use Rattle.entry.specs.Entry.{ENTRY, entryOf}
 use Rattle.play.specs.Comes.{Comes}
 use Rattle.play.specs.declared.Ran.{Ran}

@@ -1,2 +1,1 @@
-pub mod Sent
 pub mod Determined

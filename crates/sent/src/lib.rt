@@ -1,22 +1,17 @@
 // A verb sent for one request and its result taken: what becomes of the request and of the lent words, and the answer. No table of slots is handled
-// here. It relies on the contracts of `word`, `agent` and `slots` alone.
+// here. It relies on the contracts of `word`, `sends`, `takes` and `table` alone.
 ghost use mathlib.Core.Path.{_≡_};
 ghost use mathlib.Core.Bool.{_&&_};
 ghost use mathlib.Core.List.{[]};
 ghost use lib.Dec.{ltb};
-ghost use Rattle.agent.specs.Life.{leftBy, stepSends, releaseSends, stepTakes, releaseTakes};
-ghost use Rattle.answer.specs.declared.Answer.the-variants.{Refused, Told};
-ghost use Rattle.sent.specs.Records.{isNothing, refusalOf};
-ghost use Rattle.sent.specs.Sent.{handed, visited, sentVisit};
-use agent::Verb;
-use answer::Answer;
+ghost use Rattle.life.specs.Life.{leftBy, stepSends, releaseSends, stepTakes, releaseTakes};
+ghost use Rattle.rules.specs.declared.Answer.the-variants.{Refused, Told};
+ghost use Rattle.rules.specs.Records.{isNothing, refusalOf};
+ghost use Rattle.rules.specs.Sent.{handed, visited, sentVisit};
+use life::Verb;
 use request::Request;
-
-// What became of a visited slot's request, and the answer.
-pub struct Seen {
-    pub request: Request,
-    pub answer: Answer,
-}
+use rules::Answer;
+use rules::Seen;
 
 // Whether a number is a record of so many lent words.
 pub fn is_record(r: u64, lent: usize) -> bool
@@ -53,7 +48,7 @@ fn send(word: &mut u64, v: Verb) -> u64
 fn refusal(q: Request, v: Verb, words: &[u64]) -> u8
     ensures { λ r. ⌜ r ≡ refusalOf q v (now (words .entry)) ⌝ }
 {
-    if !slots::in_use(q) {
+    if !table::in_use(q) {
         return 4;
     }
     if is_nothing(v) {
@@ -74,7 +69,7 @@ pub fn refused(q: Request, n: u8) -> Seen
     }
 }
 
-fn told(t: agent::Taken) -> Seen
+fn told(t: life::Taken) -> Seen
     ensures { λ r. ⌜ r ≡ handed (visited (t .request) [] (Told (t .answer))) ⌝ }
 {
     let request = t.request;
@@ -89,26 +84,26 @@ pub fn step_visit(q: Request, words: &mut [u64]) -> Seen
     ensures said { λ r. ⌜ r ≡ handed (sentVisit q (stepSends q) (stepTakes q) (now (words .entry))) ⌝ }
     ensures left { λ r. ⌜ now (words .exit) ≡ sentVisit q (stepSends q) (stepTakes q) (now (words .entry)) .words ⌝ }
 {
-    let verb = agent::step_sends(q);
+    let verb = sends::step_sends(q);
     let n = refusal(q, verb, words);
     if n != 0 {
         return refused(q, n);
     }
     let r = q.record as usize;
     let v = send(&mut words[r], verb);
-    told(agent::step_takes(q, v))
+    told(takes::step_takes(q, v))
 }
 
 pub fn release_visit(q: Request, words: &mut [u64]) -> Seen
     ensures said { λ r. ⌜ r ≡ handed (sentVisit q (releaseSends q) (releaseTakes q) (now (words .entry))) ⌝ }
     ensures left { λ r. ⌜ now (words .exit) ≡ sentVisit q (releaseSends q) (releaseTakes q) (now (words .entry)) .words ⌝ }
 {
-    let verb = agent::release_sends(q);
+    let verb = sends::release_sends(q);
     let n = refusal(q, verb, words);
     if n != 0 {
         return refused(q, n);
     }
     let r = q.record as usize;
     let v = send(&mut words[r], verb);
-    told(agent::release_takes(q, v))
+    told(takes::release_takes(q, v))
 }

@@ -1,4 +1,3 @@
 pub mod Bits
 pub mod Maps
 pub mod Promises
-pub mod Determined

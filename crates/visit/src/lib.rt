@@ -1,12 +1,12 @@
 // One call as a visit of one slot: which slot it is, and what becomes of its request and of the lent words. No table of slots is handled here,
 // so that whoever holds one copies none of it for a call. It relies on the contracts of `sent`, `request` and `slots` alone.
 ghost use mathlib.Core.Path.{_≡_};
-ghost use Rattle.sent.specs.Sent.{handed};
-ghost use Rattle.visit.specs.Visit.{aimOf, withinBoard, visitOf, openVisit, showVisit};
-use answer::Answer;
+ghost use Rattle.rules.specs.Sent.{handed};
+ghost use Rattle.rules.specs.Visit.{aimOf, withinBoard, visitOf, openVisit, showVisit};
 use call::Call;
 use request::Request;
-use sent::Seen;
+use rules::Answer;
+use rules::Seen;
 use slots::Map;
 
 fn open_visit(record: u64, mode: u64, i: usize, q: Request, words: &[u64]) -> Seen
@@ -18,7 +18,7 @@ fn open_visit(record: u64, mode: u64, i: usize, q: Request, words: &[u64]) -> Se
     if 1 < mode {
         return sent::refused(q, 3);
     }
-    if slots::in_use(q) {
+    if table::in_use(q) {
         return sent::refused(q, 6);
     }
     Seen {
@@ -55,7 +55,7 @@ pub fn aim(c: Call, m: Map) -> usize
     ensures { λ r. ⌜ r ≡ aimOf c (m .parts) ⌝ }
 {
     match c {
-        Call::Open(_, _) => within(slots::lowest(m)),
+        Call::Open(_, _) => within(slot_map::lowest(m)),
         Call::Step(i) => within(i),
         Call::Release(i) => within(i),
         Call::Show(_) => 0,

@@ -17,19 +17,19 @@ use Rattle.ticket.specs.declared.Turn.the-variants as turn
 use Rattle.request.specs.Request.{phaseOf, modeOf, freeRequest, inPhase}
 use Rattle.request.specs.declared.Request.{Request}
 use Rattle.request.specs.declared.Phase.the-variants.{Free, Asking, Waiting, Held, Owing, Clearing}
-use Rattle.agent.specs.Life.{stepSends, stepSendsIn, stepTakes, stepTakesIn, becomes, turned}
-use Rattle.agent.specs.declared.Taken.{Taken}
-use Rattle.agent.specs.declared.Answer.the-variants as agent
-use Rattle.agent.specs.declared.Verb.the-variants.{Read}
+use Rattle.life.specs.Life.{stepSends, stepSendsIn, stepTakes, stepTakesIn, becomes, turned}
+use Rattle.life.specs.declared.Taken.{Taken}
+use Rattle.life.specs.declared.Answer.the-variants as agent
+use Rattle.life.specs.declared.Verb.the-variants.{Read}
 use Rattle.slots.specs.Slots.{SLOTS}
 use Rattle.call.specs.declared.Call.{Call}
 use Rattle.call.specs.declared.Call.the-variants.{Open, Step, Release, Show}
-use Rattle.sent.specs.Records.{isRecord, refusalOf}
-use Rattle.sent.specs.Sent.{visited, sentVisit}
-use Rattle.visit.specs.Visit.{aimOf, visitOf, namedVisit}
+use Rattle.rules.specs.Records.{isRecord, refusalOf}
+use Rattle.rules.specs.Sent.{visited, sentVisit}
+use Rattle.rules.specs.Visit.{aimOf, visitOf, namedVisit}
 use Rattle.waits.specs.Waits.{isWaiting, numberAhead, stillAhead, steppedSlot}
-use Rattle.answer.specs.declared.Answer.the-variants.{Told}
-use Rattle.sent.proofs.Sent.{accepted-visit}
+use Rattle.rules.specs.declared.Answer.the-variants.{Told}
+use Rattle.rules.proofs.Sent.{accepted-visit}
 
 -- the one test of the phase that a waiting request passes
 choice : (a b c d e : Bool) → isWaiting (if a then Asking else if b then Waiting else if c then Held else if d then Owing else if e then Clearing else Free) ≡ true → b ≡ true

@@ -17,7 +17,7 @@ use Rattle.request.specs.declared.Phase.the-variants.{Free, Asking, Waiting, He
 use Rattle.slots.specs.Slots.{SLOTS}
 use Rattle.call.specs.declared.Call.{Call}
 use Rattle.call.specs.declared.Call.the-variants.{Open, Step, Release, Show}
-use Rattle.sent.specs.Records.{isRecord}
+use Rattle.rules.specs.Records.{isRecord}
 
 abbrev pub isWaiting : Phase → Bool
 isWaiting Free = false

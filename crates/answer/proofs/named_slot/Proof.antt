@@ -1,7 +1,7 @@
 -- `visit::named_slot` meets its contract: each arm is the clause of `namedSlot`.
 -- Assumes nothing.
 use mathlib.Core.Path.{_≡_, _∙_, sym, ap}
-use Rattle.answer.specs.Answers.{namedSlot}
+use Rattle.rules.specs.Answers.{namedSlot}
 use borrow.Author.Needs.{needs}
 use Rattle.answer.proofs.named_slot.Statement.{statement}
 use Rattle.answer.proofs.named_slot.Tie as tie

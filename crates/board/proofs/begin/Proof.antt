@@ -2,7 +2,7 @@
 -- Assumes nothing.
 use mathlib.Core.Path.{_≡_, _∙_, sym, ap}
 use denote.Ref.{now}
-use Rattle.board.specs.Board.{Done}
+use Rattle.rules.specs.Board.{Done}
 use Rattle.board.specs.Leaves.{lentTo}
 use Rattle.board.proofs.Begins.{begun-none, begun-many, begun-all}
 use borrow.Author.Needs.{needs}

@@ -8,10 +8,11 @@ use denote.Ref.{now}
 use lib.ListN.{length, length-map}
 use Rattle.slots.specs.Map.{mapOf}
 use Rattle.call.specs.declared.Call.the-variants.{Open}
-use Rattle.visit.specs.Visit.{aimOf, visitOf}
-use Rattle.board.specs.Board.{Done, slotAt}
-use Rattle.board.specs.Leaves.{lentTo, stored}
-use Rattle.board.proofs.Visits.{visit-is-played, aim-small}
+use Rattle.rules.specs.Visit.{aimOf, visitOf}
+use Rattle.rules.specs.Board.{Done, slotAt}
+use Rattle.board.specs.Leaves.{lentTo}
+use Rattle.rules.specs.Visit.{stored}
+use Rattle.rules.proofs.Visits.{visit-is-played, aim-small}
 use borrow.Author.Needs.{needs}
 use Rattle.board.proofs.open.Statement.{statement}
 use Rattle.board.proofs.open.Tie as tie

@@ -3,7 +3,7 @@
 use mathlib.Core.Path.{_≡_, _∙_, sym, ap}
 use borrow.Author.Tests.{le-ltb, lt-ltb}
 use mathlib.Core.Bool.{and-false}
-use Rattle.board.specs.Board.{shown}
+use Rattle.rules.specs.Board.{shown}
 use borrow.Author.Needs.{needs}
 use Rattle.board.proofs.show.Statement.{statement}
 use Rattle.board.proofs.show.Tie as tie

@@ -11,8 +11,8 @@ use lib.ListN.{length, length-map}
 use denote.Ref.{now}
 use denote.Enum.Declared.{tagOf}
 use types.Run.{OneOf}
-use Rattle.sent.specs.declared.Seen.{Seen}
-use Rattle.board.proofs.Visits.{aim-small}
+use Rattle.rules.specs.declared.Seen.{Seen}
+use Rattle.rules.proofs.Visits.{aim-small}
 use Rattle.entry.specs.Entry.{putOf}
 use Rattle.schedule.specs.declared.Next.{Next}
 use Rattle.schedule.proofs.Next as next-type

@@ -1,7 +1,7 @@
 -- `visit::refusal` meets its contract: its tests are those of `refusalOf`, in its order.
 -- Assumes nothing.
 use mathlib.Core.Path.{_≡_, _∙_, sym, ap}
-use Rattle.sent.specs.Records.{refusalOf}
+use Rattle.rules.specs.Records.{refusalOf}
 use borrow.Author.Needs.{needs}
 use Rattle.sent.proofs.refusal.Statement.{statement}
 use Rattle.sent.proofs.refusal.Tie as tie

@@ -5,11 +5,11 @@ use Prim.Native.Nat.{ℕ}
 use mathlib.Core.List.{[]}
 use lib.ListN.{set}
 use denote.Ref.{now}
-use Rattle.agent.specs.Life.{leftBy, releaseTakes}
-use Rattle.agent.specs.declared.Taken.{Taken}
-use Rattle.sent.specs.Sent.{Visited, visited, handed}
-use Rattle.answer.specs.declared.Answer.the-variants.{Told}
-use Rattle.sent.proofs.Sent.{inside, refused-visit, accepted-visit}
+use Rattle.life.specs.Life.{leftBy, releaseTakes}
+use Rattle.life.specs.declared.Taken.{Taken}
+use Rattle.rules.specs.Sent.{Visited, visited, handed}
+use Rattle.rules.specs.declared.Answer.the-variants.{Told}
+use Rattle.rules.proofs.Sent.{inside, refused-visit, accepted-visit}
 use borrow.Author.Needs.{needs}
 use Rattle.sent.proofs.release_visit.Statement.{statement}
 use Rattle.sent.proofs.release_visit.Tie as tie

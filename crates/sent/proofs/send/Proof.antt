@@ -2,8 +2,8 @@
 -- Assumes nothing.
 use mathlib.Core.Path.{_≡_, _∙_, sym, ap}
 use denote.Ref.{now}
-use Rattle.agent.specs.Life.{leftBy}
-use Rattle.agent.specs.declared.Verb.{Verb}
+use Rattle.life.specs.Life.{leftBy}
+use Rattle.life.specs.declared.Verb.{Verb}
 use borrow.Author.Needs.{needs}
 use Rattle.sent.proofs.send.Statement.{statement}
 use Rattle.sent.proofs.send.Tie as tie

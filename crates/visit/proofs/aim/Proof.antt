@@ -1,7 +1,7 @@
 -- `visit::aim` meets its contract: each arm is the clause of `aimOf`.
 -- Assumes nothing.
 use mathlib.Core.Path.{_≡_, _∙_, sym, ap}
-use Rattle.visit.specs.Visit.{aimOf}
+use Rattle.rules.specs.Visit.{aimOf}
 use borrow.Author.Needs.{needs}
 use Rattle.visit.proofs.aim.Statement.{statement}
 use Rattle.visit.proofs.aim.Tie as tie

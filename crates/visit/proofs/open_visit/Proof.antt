@@ -5,8 +5,8 @@ use native.Mathlib.Omega.{arith}
 use denote.Ref.{now}
 use lib.ListN.{length}
 use borrow.Author.Tests.{lt-ltb, le-ltb, not-false}
-use Rattle.visit.specs.Visit.{openVisit}
-use Rattle.sent.proofs.Sent.{record-small}
+use Rattle.rules.specs.Visit.{openVisit}
+use Rattle.rules.proofs.Sent.{record-small}
 use borrow.Author.Needs.{needs}
 use Rattle.visit.proofs.open_visit.Statement.{statement}
 use Rattle.visit.proofs.open_visit.Tie as tie

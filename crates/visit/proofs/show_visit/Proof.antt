@@ -4,8 +4,8 @@ use mathlib.Core.Path.{_≡_, _∙_, sym, ap}
 use native.Mathlib.Omega.{arith}
 use denote.Ref.{now}
 use lib.ListN.{length}
-use Rattle.visit.specs.Visit.{showVisit}
-use Rattle.sent.proofs.Sent.{record-small, record-lent}
+use Rattle.rules.specs.Visit.{showVisit}
+use Rattle.rules.proofs.Sent.{record-small, record-lent}
 use borrow.Author.Needs.{needs}
 use Rattle.visit.proofs.show_visit.Statement.{statement}
 use Rattle.visit.proofs.show_visit.Tie as tie

@@ -3,7 +3,7 @@
 use mathlib.Core.Path.{_≡_, _∙_, sym, ap}
 use borrow.Author.Tests.{le-leb, lt-leb}
 use denote.Ref.{now}
-use Rattle.visit.specs.Visit.{namedVisit}
+use Rattle.rules.specs.Visit.{namedVisit}
 use Rattle.visit.proofs.Words.{open-words, show-words}
 use borrow.Author.Needs.{needs}
 use Rattle.visit.proofs.visit.Statement.{statement}

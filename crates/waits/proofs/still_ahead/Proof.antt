@@ -4,7 +4,7 @@ use mathlib.Core.Path.{_∙_, sym}
 use denote.Ref.{now}
 use borrow.Author.Tests.{not-false}
 use Rattle.waits.specs.Waits.{stillAhead}
-use Rattle.sent.proofs.Sent.{record-lent}
+use Rattle.rules.proofs.Sent.{record-lent}
 use borrow.Author.Needs.{needs}
 use Rattle.waits.proofs.still_ahead.Statement.{statement}
 use Rattle.waits.proofs.still_ahead.Tie as tie

@@ -1,0 +1,4 @@
+pub mod Sent
+pub mod Visits
+pub mod Promises
+pub mod Told

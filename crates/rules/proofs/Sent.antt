@@ -1,0 +1,64 @@
+-- The two ways a sent verb goes: refused with a number, or accepted on a record that is lent.
+-- Assumes nothing.
+use Prim.Native.Nat.{ℕ, _<_}
+use mathlib.Core.Path.{_≡_, refl, ap, sym, _∙_}
+use mathlib.Core.Bool.{Bool, true, false, not, _&&_}
+use mathlib.Core.List.{List, []}
+use native.Mathlib.Omega.{arith}
+use borrow.Author.Tests.{eq-eqb, ne-eqb, ltb-true}
+use lib.Dec.{eqb, ltb}
+use lib.ListN.{length, getD, set}
+use Rattle.word.specs.Choice.{if_then_else_}
+use Rattle.request.specs.declared.Request.{Request}
+use Rattle.life.specs.Life.{leftBy}
+use Rattle.life.specs.declared.Verb.{Verb}
+use Rattle.life.specs.declared.Taken.{Taken}
+use Rattle.slots.specs.Slots.{inUse}
+use Rattle.rules.specs.Records.{isRecord, isNothing, refusalOf}
+use Rattle.rules.specs.Sent.{Visited, visited, handed, sentVisit}
+use Rattle.rules.specs.declared.Answer.the-variants.{Refused, Told}
+
+both-left : (a b : Bool) → (a && b) ≡ true → a ≡ true
+both-left true b e = refl
+both-left false b e = e
+
+pub record-lent : (r : ℕ) (ws : List ℕ) → isRecord r ws ≡ true → r < length ws
+record-lent r ws e = ltb-true r (length ws) (both-left _ _ e)
+
+none-refused : (a b c : Bool) → _≡_ {A = ℕ} (if not a then 4 else if b then 5 else if not c then 2 else 0) 0 → c ≡ true
+none-refused false b c e = absurd (omega arith)
+none-refused true true c e = absurd (omega arith)
+none-refused true false false e = absurd (omega arith)
+none-refused true false true e = refl
+
+pub may-go : (q : Request) (verb : Verb) (ws : List ℕ) → refusalOf q verb ws ≡ 0 → isRecord (q .«record») ws ≡ true
+unfolding refusalOf
+may-go q verb ws e = none-refused (inUse q) (isNothing verb) (isRecord (q .«record») ws) e
+
+-- a verb that is the one to send, and the number that was found for it
+module _ (q : Request) (sends : Verb) (takes : ℕ → Taken) (ws : List ℕ) (verb : Verb) (n : ℕ) (same : verb ≡ sends) (why : n ≡ refusalOf q verb ws) where
+  found : refusalOf q sends ws ≡ n
+  found = ap (λ (v : Verb). refusalOf q v ws) (sym same) ∙ sym why
+
+  pub inside : n ≡ 0 → q .«record» < length ws
+  inside e = record-lent (q .«record») ws (may-go q verb ws (sym why ∙ e))
+
+  pub refused-visit : (n ≡ 0 → ⊥) → sentVisit q sends takes ws ≡ visited q ws (Refused n)
+  unfolding sentVisit
+  refused-visit ne = rw found (rw (ne-eqb n 0 ne))
+
+  pub accepted-visit :
+      n ≡ 0 →
+      (v : ℕ) →
+      v ≡ getD ws (q .«record») 0 →
+      sentVisit q sends takes ws ≡ visited (takes v .request) (set ws (q .«record») (leftBy verb v)) (Told (takes v .answer))
+  unfolding sentVisit
+  accepted-visit e v w = rw (found, e, w, same)
+
+both-right : (a b : Bool) → (a && b) ≡ true → b ≡ true
+both-right true b e = e
+both-right false true e = refl
+both-right false false e = e
+
+pub record-small : (r n : ℕ) → (ltb r n && ltb r 4096) ≡ true → r < 4096
+record-small r n e = ltb-true r 4096 (both-right (ltb r n) (ltb r 4096) e)

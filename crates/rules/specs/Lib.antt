@@ -1,0 +1,7 @@
+pub mod Answers
+pub mod Records
+pub mod Sent
+pub mod Board
+pub mod Visit
+pub mod Promises
+pub mod Examples

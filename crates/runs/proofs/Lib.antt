@@ -1,0 +1,3 @@
+pub mod Wholes
+pub mod TakenUp
+pub mod Examples

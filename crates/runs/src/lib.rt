@@ -1,0 +1,1 @@
+// A run of a schedule, in definitions and laws alone. `play` computes it.

@@ -1,0 +1,16 @@
+-- Each public function of `sends`, and why its contract determines it: the contract equates the outcome with a definition, and two
+-- things that equal a third are equal (`only-one`, the single law). A function that is missing here is a defect.
+-- Assumes nothing.
+use mathlib.Core.Path.{refl}
+use Rattle.word.specs.Determined.{Determined}
+use Rattle.word.proofs.Determined.{only-one}
+use Rattle.sends.proofs.step_sends.Kinds as step-sends-kinds
+use Rattle.sends.proofs.step_sends.Reads as step-sends-reads
+use Rattle.sends.proofs.release_sends.Kinds as release-sends-kinds
+use Rattle.sends.proofs.release_sends.Reads as release-sends-reads
+
+step-sends-determined : Determined 0 step-sends-kinds.ps step-sends-kinds.r step-sends-reads.Post
+step-sends-determined κs a z z′ ws ws′ p q = (only-one p q, refl)
+
+release-sends-determined : Determined 0 release-sends-kinds.ps release-sends-kinds.r release-sends-reads.Post
+release-sends-determined κs a z z′ ws ws′ p q = (only-one p q, refl)
