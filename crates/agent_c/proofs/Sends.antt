@@ -37,10 +37,10 @@ use Rattle.request.specs.declared.Request.{Request}
 use Rattle.request.proofs.Request as T
 use Rattle.request.proofs.Request.Laws as T′
 use Rattle.life.specs.declared.Verb.{Verb}
-use Rattle.agent_c.specs.Boundary.{verbOf}
-use Rattle.agent_c.specs.declared.CVerb.{CVerb}
-use Rattle.agent_c.proofs.CVerb as K
-use Rattle.agent_c.proofs.CVerb.Laws as K′
+use Rattle.boundary.specs.Boundary.{verbOf}
+use Rattle.boundary.specs.declared.CVerb.{CVerb}
+use Rattle.boundary.proofs.CVerb as K
+use Rattle.boundary.proofs.CVerb.Laws as K′
 -- of these two, the types of the parameters and the result alone, which are those of the other two functions as well
 use Rattle.agent_c.proofs.step_sent as g
 use Rattle.agent_c.proofs.brancove_step_sends as f

@@ -3,40 +3,16 @@
 ghost use mathlib.Core.Path.{_≡_};
 ghost use Rattle.word.specs.Word.{splitOf};
 ghost use Rattle.life.specs.Life.{stepSends, releaseSends, stepTakes, releaseTakes};
-ghost use Rattle.agent_c.specs.Boundary.{verbOf, toldOf, movedOf, askedOf};
+ghost use Rattle.boundary.specs.Boundary.{verbOf, toldOf, movedOf, askedOf};
+use boundary::Asked;
+use boundary::CTold;
+use boundary::CVerb;
+use boundary::Moved;
 use life::Answer;
 use life::Taken;
 use life::Verb;
 use request::Request;
 use word::Counters;
-
-// A verb: kind 0 none, 1 add (first is the number), 2 read, 3 swap (first is the old word, second the new one).
-#[repr(C)]
-pub struct CVerb {
-    pub kind: u8,
-    pub first: u64,
-    pub second: u64,
-}
-
-// What is told: the document's number and outcome, and the number ahead where the outcome is 3.
-#[repr(C)]
-pub struct CTold {
-    pub number: u8,
-    pub outcome: u8,
-    pub ahead: u64,
-}
-
-// What the request becomes, with what is told.
-struct Moved {
-    request: Request,
-    told: CTold,
-}
-
-// What the request becomes when it is to ask, with the document's number.
-struct Asked {
-    request: Request,
-    number: u8,
-}
 
 // A verb in numbers.
 fn verb_of(v: Verb) -> CVerb

@@ -1,8 +1,8 @@
 -- Each public function of `bench_run`, and why its contract determines it: the contract equates the outcome with a definition, and two
 -- things that equal a third are equal (`only-one`, the single law). A function that is missing here is a defect.
 -- Assumes nothing.
-use Rattle.word.specs.Determined.{Determined}
-use Rattle.word.proofs.Determined.{only-one}
+use Rattle.common.specs.Determined.{Determined}
+use Rattle.common.proofs.OnlyOne.{only-one}
 use Rattle.bench_run.proofs.brancove_bench_run.Kinds as brancove-bench-run-kinds
 use Rattle.bench_run.proofs.brancove_bench_run.Reads as brancove-bench-run-reads
 

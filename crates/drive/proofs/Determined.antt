@@ -2,7 +2,7 @@
 -- outcomes are then equal at once. A function that is missing here is a defect.
 -- Assumes nothing.
 use mathlib.Core.Path.{refl}
-use Rattle.word.specs.Determined.{Determined}
+use Rattle.common.specs.Determined.{Determined}
 use Rattle.drive.proofs.after_almost_all_tickets.Kinds as after-almost-all-tickets-kinds
 use Rattle.drive.proofs.after_almost_all_tickets.Reads as after-almost-all-tickets-reads
 use Rattle.drive.proofs.ceiling.Kinds as ceiling-kinds

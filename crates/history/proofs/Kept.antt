@@ -10,7 +10,7 @@ use borrow.Author.Tests.{leb-false, ltb-true, ltb-false, le-ltb, eqb-true, eqb-f
 use lib.Dec.{eqb, leb, ltb}
 use lib.ListN.{length, set, length-set, length-replicate, getD-replicate}
 use lib.Seq.{getD-set-same, getD-set-other, set-getD}
-use Rattle.word.specs.Choice.{if_then_else_}
+use Rattle.common.specs.Choice.{if_then_else_}
 use Rattle.word.specs.Word.{stepOf, addOf}
 use Rattle.ticket.specs.declared.Mode.{Mode}
 use Rattle.request.specs.Request.{freeRequest, openedRequest}

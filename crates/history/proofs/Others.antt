@@ -11,7 +11,7 @@ use borrow.Author.Tests.{ltb-true, ltb-false, ne-eqb}
 use lib.Dec.{eqb, ltb}
 use lib.ListN.{length, take, length-append, length-set, List·getD-append}
 use lib.Seq.{take-append-le, take-set-le, take-set-lt, getD-take, getD-set-same, getD-set-other, length-take-le}
-use Rattle.word.specs.Choice.{if_then_else_}
+use Rattle.common.specs.Choice.{if_then_else_}
 use Rattle.ticket.specs.declared.Mode.{Mode}
 use Rattle.ticket.specs.declared.Mode.the-variants.{Reader, Writer}
 use Rattle.request.specs.declared.Request.{Request}

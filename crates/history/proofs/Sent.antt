@@ -9,11 +9,11 @@ use borrow.Author.Tests.{lt-leb, lt-ltb}
 use lib.Dec.{eqb}
 use lib.ListN.{length, getD, set, length-append}
 use lib.Seq.{take-append-seam, getD-append-seam}
-use Rattle.word.specs.Choice.{if_then_else_}
+use Rattle.common.specs.Choice.{if_then_else_}
 use Rattle.word.specs.Word.{stepOf, backOf, splitOf, addOf, swapOf}
 use Rattle.word.specs.declared.Counters.{Counters}
 use Rattle.ticket.specs.Turn.{turnOf, aheadOf}
-use Rattle.ticket.specs.Ceiling.{fullAt, clearingWordOf}
+use Rattle.ceiling.specs.Ceiling.{fullAt, clearingWordOf}
 use Rattle.ticket.specs.declared.Mode.{Mode}
 use Rattle.ticket.specs.declared.Mode.the-variants.{Reader, Writer}
 use Rattle.request.specs.Request.{phaseNumber, modeOf, freeRequest, inPhase}

@@ -2,7 +2,7 @@
 -- Assumes nothing.
 use mathlib.Core.Path.{refl}
 use Rattle.ticket.specs.Turn.{turnOf}
-use Rattle.ticket.specs.Ceiling.{clearingWordOf}
+use Rattle.ceiling.specs.Ceiling.{clearingWordOf}
 use Rattle.life.specs.Life.{stepSends, releaseSends, stepTakes, releaseTakes, asked}
 use Rattle.slots.specs.Slots.{lowestFree}
 use Rattle.rules.specs.Records.{refusalOf}

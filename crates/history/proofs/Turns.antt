@@ -10,7 +10,7 @@ use borrow.Author.Tests.{le-ltb, ltb-true, ltb-false, eq-eqb, ne-eqb}
 use lib.Dec.{eqb, ltb}
 use lib.ListN.{length, take, List·getD-eq-default}
 use lib.Seq.{take-length}
-use Rattle.word.specs.Choice.{if_then_else_}
+use Rattle.common.specs.Choice.{if_then_else_}
 use Rattle.word.specs.declared.Counters.{Counters}
 use Rattle.ticket.specs.Turn.{turnOf, aheadOf}
 use Rattle.ticket.specs.declared.Ticket.{Ticket}

@@ -11,7 +11,7 @@ use native.Mathlib.Omega.{arith}
 use borrow.Author.Tests.{leb-true, leb-false, le-leb, lt-leb, eqb-true, eqb-false, eq-eqb}
 use lib.Dec.{eqb, leb}
 use lib.ListN.{length, length-append}
-use Rattle.word.specs.Choice.{if_then_else_}
+use Rattle.common.specs.Choice.{if_then_else_}
 use Rattle.word.specs.Word.{stepOf, backOf, heldBy, splitOf, joinOf, addOf}
 use Rattle.word.specs.Promises.{Narrow, changed}
 use Rattle.word.specs.declared.Counters.{Counters}
@@ -19,7 +19,7 @@ use Rattle.word.specs.declared.Counter.{Counter}
 use Rattle.word.specs.declared.Counter.the-variants.{NX, NS, MX, MS}
 use Rattle.word.proofs.RoundTrips.{word-comes-back, counters-come-back}
 use Rattle.word.proofs.Steps.{step-raises, back-lowers}
-use Rattle.ticket.specs.Ceiling.{CEIL, LAST, fullAt, restOf, clearingWordOf}
+use Rattle.ceiling.specs.Ceiling.{CEIL, LAST, fullAt, restOf, clearingWordOf}
 use Rattle.ticket.specs.declared.Mode.{Mode}
 use Rattle.ticket.specs.declared.Mode.the-variants.{Reader, Writer}
 use Rattle.life.specs.Life.{ticketCounter, releaseCounter}

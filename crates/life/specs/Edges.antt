@@ -4,7 +4,7 @@ use mathlib.Core.Path.{_≡_}
 use mathlib.Core.List.{List, [], _∷_, map}
 use Rattle.word.specs.Word.{splitOf, joinOf}
 use Rattle.word.specs.declared.Counters.{Counters}
-use Rattle.ticket.specs.Ceiling.{NONE}
+use Rattle.ceiling.specs.Ceiling.{NONE}
 use Rattle.request.specs.Request.{freeRequest}
 use Rattle.request.specs.declared.Request.{Request}
 use Rattle.request.specs.declared.Phase.the-variants.{Asking, Waiting, Held, Owing, Clearing}

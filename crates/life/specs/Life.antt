@@ -1,13 +1,13 @@
 -- The life of a request: what it sends, and what it becomes when the verb's result arrives.
 use Prim.Native.Nat.{ℕ}
 use lib.Dec.{eqb}
-use Rattle.word.specs.Choice.{if_then_else_}
+use Rattle.common.specs.Choice.{if_then_else_}
 use Rattle.word.specs.Word.{stepOf, backOf, splitOf, addOf, swapOf}
 use Rattle.word.specs.declared.Counters.{Counters}
 use Rattle.word.specs.declared.Counter.{Counter}
 use Rattle.word.specs.declared.Counter.the-variants.{NX, NS, MX, MS}
 use Rattle.ticket.specs.Turn.{turnOf}
-use Rattle.ticket.specs.Ceiling.{NONE, fullAt, clearingWordOf}
+use Rattle.ceiling.specs.Ceiling.{NONE, fullAt, clearingWordOf}
 use Rattle.ticket.specs.declared.Mode.{Mode}
 use Rattle.ticket.specs.declared.Mode.the-variants.{Reader, Writer}
 use Rattle.ticket.specs.declared.Turn.{Turn}

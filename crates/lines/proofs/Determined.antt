@@ -2,7 +2,7 @@
 -- outcomes are then equal at once. A function that is missing here is a defect.
 -- Assumes nothing.
 use mathlib.Core.Path.{refl}
-use Rattle.word.specs.Determined.{Determined}
+use Rattle.common.specs.Determined.{Determined}
 use Rattle.lines.proofs.entry_lines.Kinds as entry-lines-kinds
 use Rattle.lines.proofs.entry_lines.Reads as entry-lines-reads
 use Rattle.lines.proofs.play_lines.Kinds as play-lines-kinds

@@ -1,3 +1,2 @@
-pub mod Runs
 pub mod Playing
 pub mod Determined

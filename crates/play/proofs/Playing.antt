@@ -11,7 +11,7 @@ use borrow.Author.Tests.{eq-eqb, ne-eqb}
 use lib.Dec.{eqb, ltb}
 use lib.ListN.{length, take, drop, getD, set, length-append, length-take, length-set}
 use lib.Seq.{set-getD, sets, sets-eq, length-sets, drop-append-add, drop-drop, take-at, length-take-le}
-use Rattle.word.specs.Choice.{if_then_else_}
+use Rattle.common.specs.Choice.{if_then_else_}
 use Rattle.request.specs.Request.{freeRequest}
 use Rattle.request.specs.declared.Request.{Request}
 use Rattle.slots.specs.Map.{mapOf, markedOf}
@@ -36,13 +36,13 @@ use Rattle.entry.proofs.Stores.{fits}
 use Rattle.schedule.specs.Schedule.{nextOf}
 use Rattle.schedule.specs.declared.Next.the-variants.{Record}
 use Rattle.schedule.proofs.Bodies.{record-after}
-use Rattle.play.specs.Halts.{isEnd, haltedOf, leavesOf}
+use Rattle.runs.specs.Halts.{isEnd, haltedOf, leavesOf}
 use types.Run.{OneOf}
 use denote.Enum.Declared.{tagOf}
 use Rattle.schedule.proofs.Next as next-type
 use Rattle.play.specs.Comes.{Comes}
 use Rattle.play.specs.declared.Ran.{Ran}
-use Rattle.play.proofs.Runs.{others, plays, halts, leaves}
+use Rattle.runs.proofs.Runs.{others, plays, halts, leaves}
 use Rattle.runs.specs.Run.{Whole, ended, followed, runOf, joined, reportOf}
 use Rattle.runs.proofs.Wholes.{soFar, same-whole, nothing-yet}
 

@@ -1,2 +1,1 @@
-pub mod Halts
 pub mod Comes

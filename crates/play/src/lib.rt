@@ -2,12 +2,10 @@
 // no record copies the table. A step that goes on waiting, which changes no slot and no word, is reported and counted without a visit. It relies
 // on the contracts of `visit`, `slots`, `schedule` and `entry` alone.
 ghost use mathlib.Core.Path.{_≡_};
-ghost use lib.Dec.{ltb};
 ghost use Rattle.life.specs.declared.Answer.the-variants.{Waiting};
 ghost use Rattle.rules.specs.Answers.{saidOf};
 ghost use Rattle.rules.specs.declared.Answer.the-variants.{Told};
 ghost use Rattle.entry.specs.Entry.{putOf};
-ghost use Rattle.play.specs.Halts.{isEnd, haltedOf, leavesOf};
 ghost use Rattle.play.specs.Comes.{Comes};
 use call::Call;
 use schedule::Next;
@@ -20,45 +18,6 @@ pub struct Ran {
     pub bytes: usize,
     pub verbs: usize,
     pub board: Board,
-}
-
-fn is_end(n: Next) -> bool
-    ensures { λ r. ⌜ r ≡ isEnd n ⌝ }
-{
-    match n {
-        Next::Record(_, _) => false,
-        Next::End => true,
-        Next::Unknown => false,
-        Next::Cut => false,
-    }
-}
-
-// 11 or 12 where the allowance or the report stops the run before what stands at its place, else 0.
-fn halted(n: Next, spent: bool, room: usize) -> u8
-    ensures { λ r. ⌜ r ≡ haltedOf (isEnd n) spent (ltb room 12) ⌝ }
-{
-    if is_end(n) {
-        return 0;
-    }
-    if spent {
-        return 11;
-    }
-    if room < 12 {
-        return 12;
-    }
-    0
-}
-
-// What a run ends with where no record stands.
-fn left_by(n: Next) -> u8
-    ensures { λ r. ⌜ r ≡ leavesOf n ⌝ }
-{
-    match n {
-        Next::Record(_, _) => 0,
-        Next::End => 0,
-        Next::Unknown => 8,
-        Next::Cut => 7,
-    }
 }
 
 // Writes the entry of a step that goes on waiting.
@@ -91,7 +50,7 @@ pub fn run(
     loop {
         let next = schedule::next_at(s, place);
         let room = report.len() - records * 12;
-        let stop = halted(next, records == allowance, room);
+        let stop = halts::halted(next, records == allowance, room);
         if stop != 0 {
             return Ran {
                 ending: stop,
@@ -103,7 +62,7 @@ pub fn run(
         }
         let Next::Record(c, after) = next else {
             return Ran {
-                ending: left_by(next),
+                ending: halts::left_by(next),
                 records,
                 bytes: place - at,
                 verbs,

@@ -2,8 +2,8 @@
 -- things that equal a third are equal (`only-one`, the single law). A function that is missing here is a defect.
 -- Assumes nothing.
 use mathlib.Core.Path.{refl}
-use Rattle.word.specs.Determined.{Determined, DeterminedOf}
-use Rattle.word.proofs.Determined.{only-one}
+use Rattle.common.specs.Determined.{Determined, DeterminedOf}
+use Rattle.common.proofs.OnlyOne.{only-one}
 use Rattle.reader.proofs.new as new
 use Rattle.reader.proofs.next as next
 use Rattle.reader.proofs.Readings.new as new-reads

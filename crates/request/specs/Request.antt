@@ -1,8 +1,8 @@
 -- What a request keeps, and how its kept numbers are read.
 use Prim.Native.Nat.{ℕ}
 use lib.Dec.{eqb}
-use Rattle.word.specs.Choice.{if_then_else_}
-use Rattle.ticket.specs.Ceiling.{NONE}
+use Rattle.common.specs.Choice.{if_then_else_}
+use Rattle.ceiling.specs.Ceiling.{NONE}
 use Rattle.request.specs.declared.Request.{Request}
 use Rattle.ticket.specs.declared.Ticket.{Ticket}
 use Rattle.request.specs.declared.Phase.{Phase}

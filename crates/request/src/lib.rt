@@ -2,10 +2,10 @@
 // It uses the types of `word` and `ticket` and calls none of their functions. It knows no verb and no lock word.
 ghost use mathlib.Core.Path.{_≡_};
 ghost use Rattle.request.specs.Request.{phaseNumber, phaseOf, modeOf, freeRequest, openedRequest, inPhase};
+use counter::Exclusive;
+use counter::Shared;
 use ticket::Mode;
 use ticket::Ticket;
-use word::Exclusive;
-use word::Shared;
 
 // A request: plain numbers that C can hold, 16 bytes, all 0 when free. A clearing word of 0 is none.
 #[repr(C)]

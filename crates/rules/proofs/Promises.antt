@@ -7,9 +7,9 @@ use native.Mathlib.Omega.{arith}
 use borrow.Author.Tests.{leb-false}
 use lib.Dec.{eqb, ltb, leb}
 use lib.ListN.{length}
-use Rattle.word.specs.Choice.{if_then_else_}
+use Rattle.common.specs.Choice.{if_then_else_}
 use Rattle.ticket.specs.Turn.{turnOf}
-use Rattle.ticket.specs.Ceiling.{clearingWordOf}
+use Rattle.ceiling.specs.Ceiling.{clearingWordOf}
 use Rattle.life.specs.Life.{stepSends, releaseSends, stepTakes, releaseTakes, asked}
 use Rattle.life.specs.declared.Verb.{Verb}
 use Rattle.life.specs.declared.Taken.{Taken}

@@ -8,11 +8,11 @@ use mathlib.Core.List.{List}
 use native.Mathlib.Omega.{arith}
 use lib.Dec.{eqb, ltb, leb}
 use lib.ListN.{getD}
-use Rattle.word.specs.Choice.{if_then_else_}
+use Rattle.common.specs.Choice.{if_then_else_}
 use Rattle.word.specs.Word.{splitOf}
 use Rattle.word.specs.declared.Counters.{Counters}
 use Rattle.ticket.specs.Turn.{turnOf}
-use Rattle.ticket.specs.Ceiling.{NONE, fullAt}
+use Rattle.ceiling.specs.Ceiling.{NONE, fullAt}
 use Rattle.ticket.specs.declared.Turn.{Turn}
 use Rattle.ticket.specs.declared.Turn.the-variants as turn
 use Rattle.request.specs.Request.{phaseOf, modeOf}

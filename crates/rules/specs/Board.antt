@@ -4,7 +4,7 @@ use mathlib.Core.Bool.{not, _||_}
 use mathlib.Core.List.{List}
 use lib.Dec.{eqb, ltb, leb}
 use lib.ListN.{length, getD, set, replicate}
-use Rattle.word.specs.Choice.{if_then_else_}
+use Rattle.common.specs.Choice.{if_then_else_}
 use Rattle.request.specs.Request.{freeRequest, openedRequest}
 use Rattle.request.specs.declared.Request.{Request}
 use Rattle.life.specs.Life.{leftBy, stepSends, releaseSends, stepTakes, releaseTakes}

@@ -5,7 +5,7 @@ use mathlib.Core.Bool.{Bool, not}
 use mathlib.Core.List.{List}
 use lib.Dec.{eqb, ltb, leb}
 use lib.ListN.{getD, set}
-use Rattle.word.specs.Choice.{if_then_else_}
+use Rattle.common.specs.Choice.{if_then_else_}
 use Rattle.request.specs.Request.{openedRequest}
 use Rattle.request.specs.declared.Request.{Request}
 use Rattle.life.specs.Life.{leftBy, stepSends, releaseSends, stepTakes, releaseTakes}

@@ -1,3 +1,4 @@
 pub mod Wholes
+pub mod Runs
 pub mod TakenUp
 pub mod Examples

@@ -1,3 +1,4 @@
 pub mod Run
+pub mod Halts
 pub mod Promises
 pub mod Examples

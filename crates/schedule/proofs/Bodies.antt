@@ -9,7 +9,7 @@ use lib.Dec.{eqb, ltb, leb}
 use lib.ListN.{length}
 use mathlib.Core.List.{List}
 use Rattle.call.specs.declared.Call.{Call}
-use Rattle.word.specs.Choice.{if_then_else_}
+use Rattle.common.specs.Choice.{if_then_else_}
 use Rattle.schedule.specs.Schedule.{bodyOf, byteAt, callAt, nextOf, SHOW}
 use Rattle.schedule.specs.Promises.{KindFixesLength}
 use Rattle.schedule.specs.declared.Next.the-variants.{Record, End, Unknown, Cut}

@@ -2,8 +2,8 @@
 -- things that equal a third are equal (`only-one`, the single law). A function that is missing here is a defect.
 -- Assumes nothing.
 use mathlib.Core.Path.{refl}
-use Rattle.word.specs.Determined.{Determined}
-use Rattle.word.proofs.Determined.{only-one}
+use Rattle.common.specs.Determined.{Determined}
+use Rattle.common.proofs.OnlyOne.{only-one}
 use Rattle.schedule.proofs.body.Kinds as body-kinds
 use Rattle.schedule.proofs.body.Reads as body-reads
 use Rattle.schedule.proofs.next_at.Kinds as next-at-kinds

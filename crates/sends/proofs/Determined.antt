@@ -2,8 +2,8 @@
 -- things that equal a third are equal (`only-one`, the single law). A function that is missing here is a defect.
 -- Assumes nothing.
 use mathlib.Core.Path.{refl}
-use Rattle.word.specs.Determined.{Determined}
-use Rattle.word.proofs.Determined.{only-one}
+use Rattle.common.specs.Determined.{Determined}
+use Rattle.common.proofs.OnlyOne.{only-one}
 use Rattle.sends.proofs.step_sends.Kinds as step-sends-kinds
 use Rattle.sends.proofs.step_sends.Reads as step-sends-reads
 use Rattle.sends.proofs.release_sends.Kinds as release-sends-kinds

@@ -2,8 +2,8 @@
 -- things that equal a third are equal (`only-one`, the single law). A function that is missing here is a defect.
 -- Assumes nothing.
 use mathlib.Core.Path.{refl}
-use Rattle.word.specs.Determined.{Determined}
-use Rattle.word.proofs.Determined.{only-one}
+use Rattle.common.specs.Determined.{Determined}
+use Rattle.common.proofs.OnlyOne.{only-one}
 use Rattle.sent.proofs.is_record.Kinds as is-record-kinds
 use Rattle.sent.proofs.is_record.Reads as is-record-reads
 use Rattle.sent.proofs.refused.Kinds as refused-kinds

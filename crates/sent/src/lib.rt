@@ -38,9 +38,9 @@ fn send(word: &mut u64, v: Verb) -> u64
 {
     match v {
         Verb::Nothing => *word,
-        Verb::Add(k) => word::add(word, k),
-        Verb::Read => word::read(word),
-        Verb::Swap(old, new) => word::swap(word, old, new),
+        Verb::Add(k) => verbs::add(word, k),
+        Verb::Read => verbs::read(word),
+        Verb::Swap(old, new) => verbs::swap(word, old, new),
     }
 }
 

@@ -14,7 +14,7 @@ use lib.Dec.{eqb, ltb}
 use lib.Pow.{pow-mono}
 use lib.ListN.{length, getD, set, take, drop, length-take, length-drop, take-append-drop, length-set, drop-of-length-le}
 use lib.Seq.{drop-drop, drop-set-add, drop-set-lt, take-set-lt, take-set-le, ext-getD, getD-set-same, getD-set-other, getD-take, getD-drop}
-use Rattle.word.specs.Choice.{if_then_else_}
+use Rattle.common.specs.Choice.{if_then_else_}
 use Rattle.request.specs.declared.Request.{Request}
 use Rattle.request.specs.Request.{freeRequest}
 use Rattle.slots.specs.Slots.{inUse, lowestFree, usedSlots}

@@ -5,7 +5,7 @@ use mathlib.Core.List.{List, [], _∷_}
 use lib.Count.{trailingZeros, ones}
 use lib.Dec.{eqb}
 use lib.ListN.{take, drop, getD, set}
-use Rattle.word.specs.Choice.{if_then_else_}
+use Rattle.common.specs.Choice.{if_then_else_}
 use Rattle.request.specs.declared.Request.{Request}
 use Rattle.slots.specs.Slots.{inUse}
 

@@ -49,7 +49,7 @@ fn with_ticket(q: Request, p: Counters) -> Request
         mode: q.mode,
         phase: q.phase,
         ticket: Ticket(mx, ms),
-        clearing: ticket::clearing_word(request::mode_of(q.mode), p),
+        clearing: ceiling::clearing_word(request::mode_of(q.mode), p),
     }
 }
 
@@ -57,7 +57,7 @@ fn with_ticket(q: Request, p: Counters) -> Request
 fn asked_with(q: Request, p: Counters) -> Taken
     ensures { λ r. ⌜ r ≡ asked q p ⌝ }
 {
-    if ticket::full(p) {
+    if ceiling::full(p) {
         return becomes(request::in_phase(q, Phase::Owing), Answer::Full);
     }
     waited_with(with_ticket(q, p), p)

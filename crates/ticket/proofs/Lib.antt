@@ -1,2 +1,1 @@
-pub mod Ceiling
 pub mod Determined

@@ -1,8 +1,8 @@
 -- The turn test of a ticket (x, s) against the four counters v of a word.
 use Prim.Native.Nat.{ℕ, _+_}
 use mathlib.Core.Bool.{Bool, true, false, not, _&&_, _||_}
-use Rattle.word.specs.Choice.{if_then_else_}
-use Rattle.word.specs.Word.{exceedsX, equalsX, beyondX, exceedsS, equalsS, beyondS}
+use Rattle.common.specs.Choice.{if_then_else_}
+use Rattle.counter.specs.Order.{exceedsX, equalsX, beyondX, exceedsS, equalsS, beyondS}
 use Rattle.word.specs.declared.Counters.{Counters}
 use Rattle.ticket.specs.declared.Ticket.{Ticket}
 use Rattle.ticket.specs.declared.Mode.{Mode}

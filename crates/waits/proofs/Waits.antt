@@ -9,7 +9,7 @@ use borrow.Author.Tests.{eqb-true}
 use lib.Dec.{eqb, leb}
 use lib.ListN.{getD, set}
 use lib.Seq.{set-getD}
-use Rattle.word.specs.Choice.{if_then_else_}
+use Rattle.common.specs.Choice.{if_then_else_}
 use Rattle.word.specs.Word.{splitOf}
 use Rattle.ticket.specs.Turn.{turnOf}
 use Rattle.ticket.specs.declared.Turn.{Turn}

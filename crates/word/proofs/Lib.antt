@@ -1,4 +1,3 @@
 pub mod RoundTrips
 pub mod Steps
-pub mod Verbs
 pub mod Determined

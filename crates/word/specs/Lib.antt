@@ -1,4 +1,2 @@
-pub mod Choice
 pub mod Word
 pub mod Promises
-pub mod Determined

@@ -1,11 +1,8 @@
--- The lock word: four counters in one 64-bit number, the order of two counters of one kind, and the three verbs.
+-- The lock word: four counters in one 64-bit number, and the three verbs.
 -- Nothing here knows of requests, tickets or boards.
 use Prim.Native.Nat.{ℕ, _+_, _*_, _-_, _^_, _/_, _%_}
-use mathlib.Core.Bool.{Bool}
-use lib.Dec.{eqb, leb, ltb}
-use Rattle.word.specs.Choice.{if_then_else_}
-use Rattle.word.specs.declared.Exclusive.{Exclusive}
-use Rattle.word.specs.declared.Shared.{Shared}
+use lib.Dec.{eqb}
+use Rattle.common.specs.Choice.{if_then_else_}
 use Rattle.word.specs.declared.Counters.{Counters}
 use Rattle.word.specs.declared.Counter.{Counter}
 use Rattle.word.specs.declared.Counter.the-variants.{NX, NS, MX, MS}
@@ -42,32 +39,6 @@ splitOf w =
 -- The word that four counters make: each counts its steps.
 abbrev pub joinOf : Counters → ℕ
 joinOf c = c .nx .0 * stepOf NX + c .ns .0 * stepOf NS + c .mx .0 * stepOf MX + c .ms .0 * stepOf MS
-
--- Two exclusive counters: the first is past the second; has reached it; equals it; how far it is beyond it, 0 where it is not.
-abbrev pub exceedsX : Exclusive → Exclusive → Bool
-exceedsX a b = ltb (b .0) (a .0)
-
-abbrev pub reachesX : Exclusive → Exclusive → Bool
-reachesX a b = leb (b .0) (a .0)
-
-abbrev pub equalsX : Exclusive → Exclusive → Bool
-equalsX a b = eqb (a .0) (b .0)
-
-abbrev pub beyondX : Exclusive → Exclusive → ℕ
-beyondX a b = a .0 - b .0
-
--- The same of two shared counters. No comparison takes one of each kind.
-abbrev pub exceedsS : Shared → Shared → Bool
-exceedsS a b = ltb (b .0) (a .0)
-
-abbrev pub reachesS : Shared → Shared → Bool
-reachesS a b = leb (b .0) (a .0)
-
-abbrev pub equalsS : Shared → Shared → Bool
-equalsS a b = eqb (a .0) (b .0)
-
-abbrev pub beyondS : Shared → Shared → ℕ
-beyondS a b = a .0 - b .0
 
 -- add k: the word becomes (word + k) modulo 2^64.
 abbrev pub addOf : ℕ → ℕ → ℕ

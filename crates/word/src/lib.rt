@@ -1,18 +1,8 @@
-// The lock word: {nX, nS, mX, mS} in one u64, the order of two counters of one kind, and the three verbs on a lent word.
-// It relies on nothing and knows nothing of requests, tickets or boards.
+// The lock word: {nX, nS, mX, mS} in one u64. It uses the types of `counter` and knows nothing of requests, tickets or boards.
 ghost use mathlib.Core.Path.{_≡_};
-ghost use Rattle.word.specs.Word.{stepOf, backOf, splitOf, joinOf, addOf, swapOf};
-
-mod exclusive_order; // exclusive_order.rt: two exclusive counters compared
-mod shared_order; // shared_order.rt: two shared counters compared
-
-// A counter or a ticket number of the exclusive kind, nX or mX.
-#[repr(C)]
-pub struct Exclusive(pub u16);
-
-// A counter or a ticket number of the shared kind, nS or mS.
-#[repr(C)]
-pub struct Shared(pub u16);
+ghost use Rattle.word.specs.Word.{stepOf, backOf, splitOf, joinOf};
+use counter::Exclusive;
+use counter::Shared;
 
 // The four counters of a word: releases nX and nS, next tickets mX and mS.
 #[repr(C)]
@@ -93,34 +83,4 @@ pub fn join(c: Counters) -> u64
         + c.ns.0 as u64 * STEP_NS
         + c.mx.0 as u64 * STEP_MX
         + c.ms.0 as u64 * STEP_MS
-}
-
-// add k: the word becomes (word + k) modulo 2^64; the word before comes back.
-pub fn add(word: &mut u64, k: u64) -> u64
-    ensures returned { λ r. ⌜ r ≡ now (word .entry) ⌝ }
-    ensures left { λ r. ⌜ now (word .exit) ≡ addOf (now (word .entry)) k ⌝ }
-{
-    let before = *word;
-    *word = std::num::wrapping_add_u64(before, k);
-    before
-}
-
-// read: no change; the word comes back.
-pub fn read(word: &u64) -> u64
-    ensures returned { λ r. ⌜ r ≡ now (word .entry) ⌝ }
-{
-    let shown = *word;
-    shown
-}
-
-// swap old, new: the word becomes new if it equals old, else it stays; the word before comes back.
-pub fn swap(word: &mut u64, old: u64, new: u64) -> u64
-    ensures returned { λ r. ⌜ r ≡ now (word .entry) ⌝ }
-    ensures left { λ r. ⌜ now (word .exit) ≡ swapOf (now (word .entry)) old new ⌝ }
-{
-    let found = *word;
-    if found == old {
-        *word = new;
-    }
-    found
 }

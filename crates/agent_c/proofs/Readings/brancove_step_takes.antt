@@ -10,7 +10,7 @@ use borrow.Fn.Read.{Read, no-know, r-last, all-models}
 use borrow.Fn.World.{World, Pr}
 use denote.Triple.Entry.{Args, Res}
 use denote.Triple.Clauses.{AtExit}
-use Rattle.word.specs.Determined.{Claim}
+use Rattle.common.specs.Determined.{Claim}
 use Rattle.agent_c.proofs.brancove_step_takes as f
 
 module _ (κs : Lfts 1) (a : Args f.signature κs) (r : Res f.signature κs) (s : AtExit f.ended κs) where

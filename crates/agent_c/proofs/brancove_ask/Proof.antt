@@ -44,10 +44,10 @@ use denote.Exit.{yes}
 use Rattle.request.specs.declared.Request.{Request}
 use Rattle.request.proofs.Request as T
 use Rattle.request.proofs.Request.Laws as T′
-use Rattle.agent_c.specs.Boundary.{askedOf}
-use Rattle.agent_c.specs.declared.Asked.{Asked}
-use Rattle.agent_c.proofs.Asked as N
-use Rattle.agent_c.proofs.Asked.Laws as N′
+use Rattle.boundary.specs.Boundary.{askedOf}
+use Rattle.boundary.specs.declared.Asked.{Asked}
+use Rattle.boundary.proofs.Asked as N
+use Rattle.boundary.proofs.Asked.Laws as N′
 use Rattle.agent_c.proofs.asked_of as g
 use Rattle.agent_c.proofs.asked_of.Symbol as g-def
 use Rattle.agent_c.proofs.asked_of.Symbol.{name as #agent-c·asked-of}

@@ -16,8 +16,8 @@ use Rattle.rules.proofs.Visits.{aim-small}
 use Rattle.entry.specs.Entry.{putOf}
 use Rattle.schedule.specs.declared.Next.{Next}
 use Rattle.schedule.proofs.Next as next-type
-use Rattle.play.specs.Halts.{isEnd, haltedOf, leavesOf}
-use Rattle.play.proofs.Runs.{others}
+use Rattle.runs.specs.Halts.{isEnd, haltedOf, leavesOf}
+use Rattle.runs.proofs.Runs.{others}
 use Rattle.play.proofs.Playing.{Playing, Turning, begins, verb-le, turn-bounds, plays-one, waits-one, halts-here, leaves-here}
 use Rattle.play.proofs.run.Statement.{statement}
 use Rattle.play.proofs.run.Tie as tie

@@ -9,7 +9,7 @@ use borrow.Fn.Read.{Read, no-know, r-last, all-models}
 use borrow.Fn.World.{World, Pr}
 use denote.Triple.Entry.{Args, Res}
 use denote.Triple.Clauses.{AtExit}
-use Rattle.word.specs.Determined.{Claim}
+use Rattle.common.specs.Determined.{Claim}
 use Rattle.reader.proofs.new as new
 
 module _ (κs : Lfts 1) (a : Args new.signature κs) (r : Res new.signature κs) (s : AtExit new.ended κs) where

@@ -9,7 +9,7 @@ use borrow.Fn.Read.{Read, no-know, r-last, all-models}
 use borrow.Fn.World.{World, Pr}
 use denote.Triple.Entry.{Args, Res}
 use denote.Triple.Clauses.{AtExit}
-use Rattle.word.specs.Determined.{Claim}
+use Rattle.common.specs.Determined.{Claim}
 use Rattle.reader.proofs.next as next
 
 module _ (κs : Lfts 2) (a : Args next.signature κs) (r : Res next.signature κs) (s : AtExit next.ended κs) where

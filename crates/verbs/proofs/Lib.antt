@@ -1,0 +1,2 @@
+pub mod Verbs
+pub mod Determined
