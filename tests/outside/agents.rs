@@ -6,6 +6,9 @@ mod agent;
 #[path = "../reference/answer.rs"]
 #[allow(dead_code)]
 mod answer;
+#[path = "../reference/dice.rs"]
+#[allow(dead_code)]
+mod dice;
 #[path = "../reference/word.rs"]
 #[allow(dead_code)]
 mod word;
@@ -14,6 +17,7 @@ use std::process::ExitCode;
 
 use agent::{Phase, Request, Ticket};
 use answer::Answer;
+use dice::Dice;
 use word::{Counters, Exclusive, Shared, Verb};
 
 /// The structs of include/brancove.h.
@@ -263,45 +267,28 @@ fn asks() -> Result<u64, String> {
     Ok(asks)
 }
 
-/// Numbers from a seed (splitmix64).
-struct Dice(u64);
-
-impl Dice {
-    fn any(&mut self) -> u64 {
-        self.0 = self.0.wrapping_add(0x9e37_79b9_7f4a_7c15);
-        let mut mixed = self.0;
-        mixed = (mixed ^ (mixed >> 30)).wrapping_mul(0xbf58_476d_1ce4_e5b9);
-        mixed = (mixed ^ (mixed >> 27)).wrapping_mul(0x94d0_49bb_1331_11eb);
-        mixed ^ (mixed >> 31)
-    }
-
-    fn below(&mut self, limit: u64) -> u64 {
-        self.any() % limit
-    }
-
-    /// An edge, a small number, one near the ceiling, or any.
-    fn count(&mut self) -> u16 {
-        match self.below(4) {
-            0 => COUNTS[self.below(8) as usize],
-            1 => self.below(6) as u16,
-            2 => 32_760 + self.below(16) as u16,
-            _ => self.any() as u16,
-        }
+/// An edge, a small number, one near the ceiling, or any.
+fn count(dice: &mut Dice) -> u16 {
+    match dice.below(4) {
+        0 => COUNTS[dice.below(8) as usize],
+        1 => dice.below(6) as u16,
+        2 => 32_760 + dice.below(16) as u16,
+        _ => dice.any() as u16,
     }
 }
 
 fn by_chance(dice: &mut Dice, requests: u64) -> Result<(), String> {
     for _ in 0..requests {
-        let (x, s) = (dice.count(), dice.count());
+        let (x, s) = (count(dice), count(dice));
         // Half of the words are near the ticket, so that each turn comes up.
         let (n_x, n_s) = match dice.below(2) {
             0 => (
                 x.wrapping_add(dice.below(3) as u16).wrapping_sub(1),
                 s.wrapping_add(dice.below(3) as u16).wrapping_sub(1),
             ),
-            _ => (dice.count(), dice.count()),
+            _ => (count(dice), count(dice)),
         };
-        let result = Counters::new(n_x, n_s, dice.count(), dice.count()).word();
+        let result = Counters::new(n_x, n_s, count(dice), count(dice)).word();
         let clearing = [0, result, dice.any()][dice.below(3) as usize];
         let phase = match dice.below(8) {
             0 => dice.any() as u8,
@@ -388,7 +375,7 @@ fn send(verb: c::Verb, word: &mut u64) -> u64 {
 }
 
 fn all(seed: u64, requests: u64) -> Result<(), String> {
-    let mut dice = Dice(seed);
+    let mut dice = Dice::seeded(seed);
     println!("agents: seed {seed}");
     println!(
         "agents: {} requests on edges, four functions each: equal",

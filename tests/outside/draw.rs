@@ -1,7 +1,8 @@
 //! Schedules drawn to trouble a player. The same class and the same dice always give the same bytes.
 
 use crate::player::MOST_INPUT_BYTES;
-use crate::random::{Damage, Dice, Plan};
+use crate::dice::Dice;
+use crate::random::{Damage, Plan};
 use crate::schedule::Call;
 
 /// How a schedule is drawn. The names are printed.

@@ -9,6 +9,9 @@ mod answer;
 #[path = "../reference/board.rs"]
 #[allow(dead_code)]
 mod board;
+#[path = "../reference/dice.rs"]
+#[allow(dead_code)]
+mod dice;
 mod draw;
 #[path = "../reference/player.rs"]
 #[allow(dead_code)]
@@ -33,7 +36,7 @@ use std::process::{Command, ExitCode, Stdio};
 use std::time::Instant;
 
 use draw::{CLASSES, LONG};
-use random::Dice;
+use dice::Dice;
 
 const USAGE: &str = "\
 schedules SEED ROUNDS FOLDER PLAYER...        so many schedules of each class, a quarter of the long ones

@@ -3,7 +3,7 @@
 
 use crate::answer::Outcome;
 use crate::board::Board;
-use crate::random::Dice;
+use crate::dice::Dice;
 use crate::word::{Counters, CEIL};
 
 #[derive(Clone, Copy, PartialEq, Eq)]

@@ -8,6 +8,7 @@ mod answer;
 mod board;
 mod cases;
 mod ceiling;
+mod dice;
 #[cfg(test)]
 mod ledger;
 mod player;

@@ -22,11 +22,11 @@ pub fn after_almost_all_tickets(mode: u8, second: &[u8]) {
         board = after;
     }
     let ran = play::run(board, &mut words, second, 0, 1024, &mut report);
-    lines::entry_lines(records, &report, ran.records);
+    text::entry_lines(records, &report, ran.records);
     records = std::num::wrapping_add_u64(records, ran.records as u64);
     bytes = std::num::wrapping_add_u64(bytes, ran.bytes as u64);
     verbs = std::num::wrapping_add_u64(verbs, ran.verbs as u64);
-    lines::end_line(ran.ending as u64, records, bytes, verbs);
+    text::end_line(ran.ending as u64, records, bytes, verbs);
 }
 
 // The ceiling of one mode: the last ticket, two requests of both modes turned away, clearing due, not yet clear while a withdrawal is owed,

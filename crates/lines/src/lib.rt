@@ -1,86 +1,10 @@
-// What the program prints: a line for each entry of a report, and the last line. And the whole job: a schedule played on a fresh board of
-// 64 words, in as many runs as the report's buffer needs. No contract can say what is written; all that matters is done by `play`.
-use libc::STDOUT_FILENO;
-
-// A number and what stands after it.
-fn field(n: u64, after: &[u8]) {
-    io::print_decimal(STDOUT_FILENO, n);
-    io::write_all(STDOUT_FILENO, after);
-}
-
-// Eight bytes as a number, low first.
-fn eight(a: u8, b: u8, c: u8, d: u8, e: u8, f: u8, g: u8, h: u8) -> u64 {
-    a as u64
-        + b as u64 * 256
-        + c as u64 * 65536
-        + d as u64 * 16777216
-        + e as u64 * 4294967296
-        + f as u64 * 1099511627776
-        + g as u64 * 281474976710656
-        + h as u64 * 72057594037927936
-}
-
-// The line of the entry at a place: count, number, outcome, slot, value.
-fn entry_line(count: u64, report: &[u8], at: usize) {
-    let n = report.len();
-    if n < 12 {
-        return;
-    }
-    if n - 12 < at {
-        return;
-    }
-    field(count, b" ");
-    field(wide(report[at]), b" ");
-    field(wide(report[at + 1]), b" ");
-    field(wide(report[at + 2]), b" ");
-    field(
-        eight(
-            report[at + 4],
-            report[at + 5],
-            report[at + 6],
-            report[at + 7],
-            report[at + 8],
-            report[at + 9],
-            report[at + 10],
-            report[at + 11],
-        ),
-        b"\n",
-    );
-}
-
-fn wide(b: u8) -> u64 {
-    b as u64
-}
-
-// The lines of the first entries of a report, counted on from `before`.
-pub fn entry_lines(before: u64, report: &[u8], entries: usize) {
-    let mut i: usize = 0;
-    while i < entries {
-        if 65536 <= i {
-            return;
-        }
-        entry_line(
-            std::num::wrapping_add_u64(before, i as u64 + 1),
-            report,
-            i * 12,
-        );
-        i += 1;
-    }
-}
-
-// The last line: end, ending number, records, bytes taken, verbs.
-pub fn end_line(ending: u64, records: u64, bytes: u64, verbs: u64) {
-    io::write_all(STDOUT_FILENO, b"end ");
-    field(ending, b" ");
-    field(records, b" ");
-    field(bytes, b" ");
-    field(verbs, b"\n");
-}
+// The program's whole job: a schedule played on a fresh board of 64 words, in as many runs as the report's buffer needs. No contract can say what is
+// written; all that matters is done by `play`.
 
 // Plays a schedule on a fresh board of 64 words and prints its lines; over 65,536 bytes only the last line, with 13.
 pub fn play_lines(input: &[u8]) {
     if 65536 < input.len() {
-        end_line(13, 0, 0, 0);
+        text::end_line(13, 0, 0, 0);
         return;
     }
     let mut words = [0u64; 64];
@@ -94,14 +18,14 @@ pub fn play_lines(input: &[u8]) {
     while runs < 65536 {
         runs += 1;
         let ran = play::run(board, &mut words, input, place, 512, &mut report);
-        entry_lines(records, &report, ran.records);
+        text::entry_lines(records, &report, ran.records);
         records = std::num::wrapping_add_u64(records, ran.records as u64);
         verbs = std::num::wrapping_add_u64(verbs, ran.verbs as u64);
         place = std::num::wrapping_add_usize(place, ran.bytes);
         let ending = ran.ending;
         if ending != 11 {
             if ending != 12 {
-                end_line(ending as u64, records, place as u64, verbs);
+                text::end_line(ending as u64, records, place as u64, verbs);
                 return;
             }
         }

@@ -1,8 +1,8 @@
 -- It is safe and ends: a loop that counts up to a bound. Assumes nothing.
 use Prim.Native.Nat.{ℕ, _≤_, _-_}
 use borrow.Author.Needs.{needs}
-use Rattle.lines.proofs.entry_lines.Statement.{statement}
-use Rattle.lines.proofs.entry_lines.Tie as tie
+use Rattle.text.proofs.entry_lines.Statement.{statement}
+use Rattle.text.proofs.entry_lines.Tie as tie
 
 abbrev Inv-loop : tie.InvT-loop
 Inv-loop before report entries i₀ i = i ≤ entries
