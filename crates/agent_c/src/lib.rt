@@ -1,5 +1,5 @@
 // The agent for a caller in C. An exported function only loads the request, calls a function by value, stores and returns; the cases
-// stand in the functions by value. It relies on the contracts of `agent`, `request`, `slots` and `word` alone.
+// stand in the functions by value. It relies on the contracts of `sends`, `takes`, `numbers`, `request`, `table` and `word` alone.
 ghost use mathlib.Core.Path.{_≡_};
 ghost use Rattle.word.specs.Word.{splitOf};
 ghost use Rattle.life.specs.Life.{stepSends, releaseSends, stepTakes, releaseTakes};
@@ -46,7 +46,7 @@ fn verb_of(v: Verb) -> CVerb
 fn told_of(a: Answer) -> CTold
     ensures { λ r. ⌜ r ≡ toldOf a ⌝ }
 {
-    let n = answer::numbers_of(a);
+    let n = numbers::numbers_of(a);
     CTold {
         number: n.number,
         outcome: n.outcome,

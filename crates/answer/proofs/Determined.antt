@@ -4,15 +4,10 @@
 use mathlib.Core.Path.{refl}
 use Rattle.common.specs.Determined.{Determined}
 use Rattle.common.proofs.OnlyOne.{only-one}
-use Rattle.answer.proofs.numbers_of.Kinds as numbers-of-kinds
-use Rattle.answer.proofs.numbers_of.Reads as numbers-of-reads
 use Rattle.answer.proofs.tell.Kinds as tell-kinds
 use Rattle.answer.proofs.tell.Reads as tell-reads
 use Rattle.answer.proofs.verbs_of.Kinds as verbs-of-kinds
 use Rattle.answer.proofs.verbs_of.Reads as verbs-of-reads
-
-numbers-of-determined : Determined 0 numbers-of-kinds.ps numbers-of-kinds.r numbers-of-reads.Post
-numbers-of-determined κs a z z′ ws ws′ p q = (only-one p q, refl)
 
 tell-determined : Determined 0 tell-kinds.ps tell-kinds.r tell-reads.Post
 tell-determined κs a z z′ ws ws′ p q = (only-one p q, refl)

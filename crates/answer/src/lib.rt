@@ -1,69 +1,9 @@
-// The answers of the agent and of the board in the document's numbers, and whether a verb was sent. It relies on types alone.
+// The answers of the board in the document's numbers, and whether a verb was sent. It relies on the contract of `numbers` alone.
 ghost use mathlib.Core.Path.{_≡_};
-ghost use Rattle.life.specs.Answers.{numbersOf};
 ghost use Rattle.rules.specs.Answers.{namedSlot, saidOf, verbsOf};
 use call::Call;
-use life::Numbers;
 use rules::Answer;
 use rules::Said;
-
-// The document's numbers for an answer.
-pub fn numbers_of(a: life::Answer) -> Numbers
-    ensures { λ r. ⌜ r ≡ numbersOf a ⌝ }
-{
-    match a {
-        life::Answer::WrongPhase => Numbers {
-            number: 5,
-            outcome: 0,
-            value: 0,
-        },
-        life::Answer::Granted => Numbers {
-            number: 0,
-            outcome: 2,
-            value: 0,
-        },
-        life::Answer::Waiting(ahead) => Numbers {
-            number: 0,
-            outcome: 3,
-            value: ahead,
-        },
-        life::Answer::Full => Numbers {
-            number: 0,
-            outcome: 4,
-            value: 0,
-        },
-        life::Answer::Withdrawn => Numbers {
-            number: 0,
-            outcome: 5,
-            value: 0,
-        },
-        life::Answer::Released => Numbers {
-            number: 0,
-            outcome: 6,
-            value: 0,
-        },
-        life::Answer::ClearingDue => Numbers {
-            number: 0,
-            outcome: 7,
-            value: 0,
-        },
-        life::Answer::Cleared => Numbers {
-            number: 0,
-            outcome: 8,
-            value: 0,
-        },
-        life::Answer::NotYetClear => Numbers {
-            number: 0,
-            outcome: 9,
-            value: 0,
-        },
-        life::Answer::Passed => Numbers {
-            number: 0,
-            outcome: 11,
-            value: 0,
-        },
-    }
-}
 
 // The slot that a call names, as one byte; 0 where it names none.
 fn named_slot(c: Call) -> u8
@@ -102,7 +42,7 @@ pub fn tell(c: Call, a: Answer) -> Said
             value: 0,
         },
         Answer::Told(told) => {
-            let n = numbers_of(told);
+            let n = numbers::numbers_of(told);
             Said {
                 number: n.number,
                 outcome: n.outcome,

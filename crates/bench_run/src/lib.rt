@@ -7,7 +7,7 @@ ghost use Rattle.bench_run.specs.Bench.{Benched};
 pub extern "C" fn brancove_bench_run(words: &mut [u64], schedule: &[u8], report: &mut [u8]) -> u64
     ensures { λ r. ⌜ Benched (now (words .entry)) (now (schedule .entry)) (now (report .entry)) r (now (words .exit)) (now (report .exit)) ⌝ }
 {
-    let begun = board::begin(table::fresh(), words);
+    let begun = begins::begin(table::fresh(), words);
     let board = begun.board;
     let ran = play::run(board, words, schedule, 0, 1099511627776, report);
     ran.verbs as u64

@@ -1,59 +1,16 @@
 // The board: lent lock words plus a table of 256 request slots, by value. It plays agents and memory in any order.
-// It relies on the contracts of `visit` and `slots` alone.
+// It relies on the contracts of `aim`, `visit` and `slot_map` alone.
 ghost use mathlib.Core.Path.{_≡_};
-ghost use mathlib.Core.List.{[]};
 ghost use Prim.Native.Nat.{_<_};
-ghost use lib.ListN.{length, replicate, getD};
+ghost use lib.ListN.{getD};
 ghost use Rattle.request.specs.Request.{freeRequest};
-ghost use Rattle.slots.specs.Slots.{usedSlots};
-ghost use Rattle.rules.specs.Visit.{visitOf};
-ghost use Rattle.rules.specs.Board.{begun, opened, stepped, released, shown};
-ghost use Rattle.board.specs.Leaves.{Leaves, lentTo};
-ghost use Rattle.rules.specs.Visit.{stored};
+ghost use Rattle.rules.specs.Board.{opened, stepped, released};
+ghost use Rattle.rules.specs.Visit.{visitOf, stored};
+ghost use Rattle.rules.specs.Leaves.{Leaves, lentTo};
 use call::Call;
-use rules::Answer;
+use rules::Played;
 use slots::Board;
 use slots::Map;
-
-// A board after a call, and the answer.
-pub struct Played {
-    pub board: Board,
-    pub answer: Answer,
-}
-
-fn clear(words: &mut [u64])
-    ensures { λ r. ⌜ now (words .exit) ≡ replicate (length (now (words .entry))) 0 ⌝ }
-{
-    let mut i = 0;
-    while i < words.len() {
-        words[i] = 0;
-        i += 1;
-    }
-}
-
-// Sets all lent words to 0 and all slots free; 9 for 0 words or more than 4,096.
-pub fn begin(b: Board, words: &mut [u64]) -> Played
-    ensures { λ r. ⌜ Leaves (begun (lentTo b (now (words .entry)))) r (now (words .exit)) ⌝ }
-{
-    let n = words.len();
-    if n == 0 {
-        return Played {
-            board: b,
-            answer: Answer::Refused(9),
-        };
-    }
-    if 4096 < n {
-        return Played {
-            board: b,
-            answer: Answer::Refused(9),
-        };
-    }
-    clear(words);
-    Played {
-        board: table::fresh(),
-        answer: Answer::Begun,
-    }
-}
 
 // The visit of slot i by a call.
 fn placed(b: Board, words: &mut [u64], c: Call, i: usize) -> Played
@@ -77,7 +34,7 @@ pub fn open(b: Board, words: &mut [u64], record: u64, mode: u64) -> Played
     ensures { λ r. ⌜ Leaves (opened «record» mode (lentTo b (now (words .entry)))) r (now (words .exit)) ⌝ }
 {
     let c = Call::Open(record, mode);
-    let i = visit::aim(c, slot_map::map_of(b));
+    let i = aim::aim(c, slot_map::map_of(b));
     placed(b, words, c, i)
 }
 
@@ -86,7 +43,7 @@ pub fn step(b: Board, words: &mut [u64], slot: u64) -> Played
     ensures { λ r. ⌜ Leaves (stepped slot (lentTo b (now (words .entry)))) r (now (words .exit)) ⌝ }
 {
     let c = Call::Step(slot);
-    let i = visit::aim(c, Map { parts: [0u64; 4] });
+    let i = aim::aim(c, Map { parts: [0u64; 4] });
     placed(b, words, c, i)
 }
 
@@ -95,28 +52,6 @@ pub fn release(b: Board, words: &mut [u64], slot: u64) -> Played
     ensures { λ r. ⌜ Leaves (released slot (lentTo b (now (words .entry)))) r (now (words .exit)) ⌝ }
 {
     let c = Call::Release(slot);
-    let i = visit::aim(c, Map { parts: [0u64; 4] });
+    let i = aim::aim(c, Map { parts: [0u64; 4] });
     placed(b, words, c, i)
-}
-
-// The word of a record. It looks at no slot.
-pub fn show(words: &[u64], record: u64) -> Answer
-    ensures { λ r. ⌜ r ≡ shown «record» (record { slots = []; words = now (words .entry) }) .answer ⌝ }
-{
-    if 4096 <= record {
-        return Answer::Refused(2);
-    }
-    let r = record as usize;
-    if r < words.len() {
-        return Answer::Shown(words[r]);
-    }
-    Answer::Refused(2)
-}
-
-// How many slots are in use.
-pub fn used(b: Board) -> u64
-    ensures { λ r. ⌜ r ≡ usedSlots (b .slots) ⌝ }
-{
-    let used = slot_map::count(slot_map::map_of(b));
-    used
 }

@@ -1,4 +1,4 @@
-// A call on the board, with every number as wide as a caller can make it. What a call does stands in `board`, how it is written in
+// A call on the board, with every number as wide as a caller can make it. What a call does stands in `rules`, how it is written in
 // bytes in `schedule`.
 pub enum Call {
     // record, mode

@@ -4,7 +4,7 @@
 // Plays the second schedule after 32,767 tickets of a mode were given and released on record 0.
 pub fn after_almost_all_tickets(mode: u8, second: &[u8]) {
     let mut words = [0u64; 64];
-    let begun = board::begin(table::fresh(), &mut words);
+    let begun = begins::begin(table::fresh(), &mut words);
     let mut board = begun.board;
     let ticket = [1u8, 0, 0, mode, 2, 0, 3, 0];
     let mut report = [0u8; 12288];

@@ -114,7 +114,7 @@ examples =
     example 13 (waits reader (ticket 1 0)) (step (word 1 1 1 2) (word 1 1 1 2) Held (ticket 1 0) none granted 0 ∷ []) ∷
     []
 
--- What `word` and `agent` define for one step of a request that finds the word f,
+-- What `word` and `Life` define for one step of a request that finds the word f,
 abbrev pub shown : Request → Counters → Taken → Step
 shown q f t =
     record {

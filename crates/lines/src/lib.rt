@@ -8,7 +8,7 @@ pub fn play_lines(input: &[u8]) {
         return;
     }
     let mut words = [0u64; 64];
-    let begun = board::begin(table::fresh(), &mut words);
+    let begun = begins::begin(table::fresh(), &mut words);
     let mut board = begun.board;
     let mut report = [0u8; 6144];
     let mut place: usize = 0;

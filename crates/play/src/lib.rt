@@ -1,6 +1,6 @@
 // A run: plays the records of a schedule one by one and reports each in 12 bytes. The board is in one local and its map in another, so that
 // no record copies the table. A step that goes on waiting, which changes no slot and no word, is reported and counted without a visit. It relies
-// on the contracts of `visit`, `slots`, `schedule` and `entry` alone.
+// on the contracts of the crates that it calls alone.
 ghost use mathlib.Core.Path.{_≡_};
 ghost use Rattle.life.specs.declared.Answer.the-variants.{Waiting};
 ghost use Rattle.rules.specs.Answers.{saidOf};
@@ -81,7 +81,7 @@ pub fn run(
                 continue;
             }
         }
-        let i = visit::aim(c, map);
+        let i = aim::aim(c, map);
         let q = cur.slots[i];
         let d = visit::visit(c, i, q, words);
         let request = d.request;

@@ -10,7 +10,7 @@ use Rattle.schedule.specs.Schedule.{bodyOf, byteAt, nextOf}
 use Rattle.reader.specs.declared.Reader.{Reader}
 use Rattle.reader.specs.Reading.{atPlace, movedOn, callIn, readings}
 
--- The first n records from a place on, as `runOf` of `play` goes through them: they stop where no whole record stands.
+-- The first n records from a place on, as `runOf` of `runs` goes through them: they stop where no whole record stands.
 abbrev pub goesOn : Next → (ℕ → List Call) → List Call
 goesOn (Record c next) rest = c ∷ rest next
 goesOn End rest = []

@@ -1,5 +1,5 @@
 // A request as it is kept: plain numbers that a C caller can store, and how they are read.
-// It uses the types of `word` and `ticket` and calls none of their functions. It knows no verb and no lock word.
+// It uses the types of `counter` and `ticket` and calls none of their functions. It knows no verb and no lock word.
 ghost use mathlib.Core.Path.{_≡_};
 ghost use Rattle.request.specs.Request.{phaseNumber, phaseOf, modeOf, freeRequest, openedRequest, inPhase};
 use counter::Exclusive;

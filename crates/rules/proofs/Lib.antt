@@ -2,3 +2,4 @@ pub mod Sent
 pub mod Visits
 pub mod Promises
 pub mod Told
+pub mod Same

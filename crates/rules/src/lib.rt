@@ -1,5 +1,6 @@
 // The rules of the board, in definitions alone: its answers, what each call makes of slots and words, and the visit of one slot.
 use request::Request;
+use slots::Board;
 
 // One answer for all calls on the board. Opened carries the slot, Shown the word, Told what the agent tells.
 pub enum Answer {
@@ -21,5 +22,11 @@ pub struct Said {
 // What became of a visited slot's request, and the answer.
 pub struct Seen {
     pub request: Request,
+    pub answer: Answer,
+}
+
+// A board after a call, and the answer.
+pub struct Played {
+    pub board: Board,
     pub answer: Answer,
 }

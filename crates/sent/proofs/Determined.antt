@@ -4,20 +4,10 @@
 use mathlib.Core.Path.{refl}
 use Rattle.common.specs.Determined.{Determined}
 use Rattle.common.proofs.OnlyOne.{only-one}
-use Rattle.sent.proofs.is_record.Kinds as is-record-kinds
-use Rattle.sent.proofs.is_record.Reads as is-record-reads
-use Rattle.sent.proofs.refused.Kinds as refused-kinds
-use Rattle.sent.proofs.refused.Reads as refused-reads
 use Rattle.sent.proofs.step_visit.Kinds as step-visit-kinds
 use Rattle.sent.proofs.step_visit.Reads as step-visit-reads
 use Rattle.sent.proofs.release_visit.Kinds as release-visit-kinds
 use Rattle.sent.proofs.release_visit.Reads as release-visit-reads
-
-is-record-determined : Determined 0 is-record-kinds.ps is-record-kinds.r is-record-reads.Post
-is-record-determined κs a z z′ ws ws′ p q = (only-one p q, refl)
-
-refused-determined : Determined 0 refused-kinds.ps refused-kinds.r refused-reads.Post
-refused-determined κs a z z′ ws ws′ p q = (only-one p q, refl)
 
 step-visit-determined : Determined 1 step-visit-kinds.ps step-visit-kinds.r step-visit-reads.Post
 step-visit-determined κs a z z′ ws ws′ p q = (only-one (p .0) (q .0), rw (only-one (p .1) (q .1)))

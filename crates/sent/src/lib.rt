@@ -1,9 +1,7 @@
 // A verb sent for one request and its result taken: what becomes of the request and of the lent words, and the answer. No table of slots is handled
-// here. It relies on the contracts of `word`, `sends`, `takes` and `table` alone.
+// here. It relies on the contracts of `verbs`, `sends`, `takes`, `table` and `records` alone.
 ghost use mathlib.Core.Path.{_≡_};
-ghost use mathlib.Core.Bool.{_&&_};
 ghost use mathlib.Core.List.{[]};
-ghost use lib.Dec.{ltb};
 ghost use Rattle.life.specs.Life.{leftBy, stepSends, releaseSends, stepTakes, releaseTakes};
 ghost use Rattle.rules.specs.declared.Answer.the-variants.{Refused, Told};
 ghost use Rattle.rules.specs.Records.{isNothing, refusalOf};
@@ -12,13 +10,6 @@ use life::Verb;
 use request::Request;
 use rules::Answer;
 use rules::Seen;
-
-// Whether a number is a record of so many lent words.
-pub fn is_record(r: u64, lent: usize) -> bool
-    ensures { λ r'. ⌜ r' ≡ ltb r lent && ltb r 4096 ⌝ }
-{
-    r < lent as u64 && r < 4096
-}
 
 fn is_nothing(v: Verb) -> bool
     ensures { λ r. ⌜ r ≡ isNothing v ⌝ }
@@ -54,19 +45,10 @@ fn refusal(q: Request, v: Verb, words: &[u64]) -> u8
     if is_nothing(v) {
         return 5;
     }
-    if is_record(q.record as u64, words.len()) {
+    if records::is_record(q.record as u64, words.len()) {
         return 0;
     }
     2
-}
-
-pub fn refused(q: Request, n: u8) -> Seen
-    ensures { λ r. ⌜ r ≡ handed (visited q [] (Refused n)) ⌝ }
-{
-    Seen {
-        request: q,
-        answer: Answer::Refused(n),
-    }
 }
 
 fn told(t: life::Taken) -> Seen
@@ -87,7 +69,7 @@ pub fn step_visit(q: Request, words: &mut [u64]) -> Seen
     let verb = sends::step_sends(q);
     let n = refusal(q, verb, words);
     if n != 0 {
-        return refused(q, n);
+        return records::refused(q, n);
     }
     let r = q.record as usize;
     let v = send(&mut words[r], verb);
@@ -101,7 +83,7 @@ pub fn release_visit(q: Request, words: &mut [u64]) -> Seen
     let verb = sends::release_sends(q);
     let n = refusal(q, verb, words);
     if n != 0 {
-        return refused(q, n);
+        return records::refused(q, n);
     }
     let r = q.record as usize;
     let v = send(&mut words[r], verb);

@@ -10,10 +10,6 @@ use Prim.Native.Nat.{ℕ}
 use Rattle.slots.specs.declared.Map.{Map}
 use Rattle.slot_map.proofs.map_of.Kinds as map-of-kinds
 use Rattle.slot_map.proofs.map_of.Reads as map-of-reads
-use Rattle.slot_map.proofs.lowest.Kinds as lowest-kinds
-use Rattle.slot_map.proofs.lowest.Reads as lowest-reads
-use Rattle.slot_map.proofs.count.Kinds as count-kinds
-use Rattle.slot_map.proofs.count.Reads as count-reads
 use Rattle.slot_map.proofs.marked.Kinds as marked-kinds
 use Rattle.slot_map.proofs.marked.Reads as marked-reads
 
@@ -23,12 +19,6 @@ map-same p = ap (λ (l : List ℕ). record { parts = l }) p
 
 map-of-determined : Determined 0 map-of-kinds.ps map-of-kinds.r map-of-reads.Post
 map-of-determined κs a z z′ ws ws′ p q = (map-same (only-one p q), refl)
-
-lowest-determined : Determined 0 lowest-kinds.ps lowest-kinds.r lowest-reads.Post
-lowest-determined κs a z z′ ws ws′ p q = (only-one p q, refl)
-
-count-determined : Determined 0 count-kinds.ps count-kinds.r count-reads.Post
-count-determined κs a z z′ ws ws′ p q = (only-one p q, refl)
 
 marked-determined : Determined 0 marked-kinds.ps marked-kinds.r marked-reads.Post
 marked-determined κs a z z′ ws ws′ p q = (map-same (only-one p q), refl)

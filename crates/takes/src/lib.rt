@@ -1,6 +1,6 @@
 // What one request becomes when the result of its verb arrives, for any u64 as that result.
-// It relies on the contracts of `word`, `ticket` and `request` alone. It sees a lock word only as a verb's result, and never looks
-// at the record number.
+// It relies on the contracts of `word`, `ticket`, `ceiling` and `request` alone. It sees a lock word only as a verb's result, and never
+// looks at the record number.
 ghost use mathlib.Core.Path.{_≡_};
 ghost use Rattle.life.specs.Life.{becomes, freed, waited, ticketed, asked, swapped, letGo, stepTakes, releaseTakes};
 use life::Answer;

@@ -4,13 +4,8 @@
 use mathlib.Core.Path.{refl}
 use Rattle.common.specs.Determined.{Determined}
 use Rattle.common.proofs.OnlyOne.{only-one}
-use Rattle.visit.proofs.aim.Kinds as aim-kinds
-use Rattle.visit.proofs.aim.Reads as aim-reads
 use Rattle.visit.proofs.visit.Kinds as visit-kinds
 use Rattle.visit.proofs.visit.Reads as visit-reads
-
-aim-determined : Determined 0 aim-kinds.ps aim-kinds.r aim-reads.Post
-aim-determined κs a z z′ ws ws′ p q = (only-one p q, refl)
 
 visit-determined : Determined 1 visit-kinds.ps visit-kinds.r visit-reads.Post
 visit-determined κs a z z′ ws ws′ p q = (only-one (p .0) (q .0), rw (only-one (p .1) (q .1)))

@@ -1,5 +1,5 @@
 // The step of a request that goes on waiting, told apart: it leaves the request and the words, so that a run need not visit it.
-// It relies on the contracts of `sent`, `request`, `ticket` and `word` alone.
+// It relies on the contracts of `records`, `request`, `ticket` and `word` alone.
 ghost use mathlib.Core.Path.{_≡_};
 ghost use Rattle.waits.specs.Waits.{isWaiting, numberAhead, stillAhead, steppedSlot};
 use call::Call;
@@ -54,7 +54,7 @@ pub fn still_ahead(q: Request, words: &[u64]) -> u64
     if !is_waiting(request::phase_of(q.phase)) {
         return 0;
     }
-    if !sent::is_record(q.record as u64, words.len()) {
+    if !records::is_record(q.record as u64, words.len()) {
         return 0;
     }
     let r = q.record as usize;
