@@ -1,15 +1,14 @@
 -- The three ways a begin goes.
 -- Assumes nothing.
-use Prim.Native.Nat.{ℕ, _<_, _≤_}
+use Prim.Native.Nat.{_<_, _≤_}
 use mathlib.Core.Path.{_≡_, refl}
-use mathlib.Core.Bool.{Bool, true, or-true}
-use mathlib.Core.List.{List}
+use mathlib.Core.Bool.{or-true}
 use borrow.Author.Tests.{eq-eqb, ne-eqb, lt-ltb, le-ltb}
 use lib.Dec.{eqb}
 use lib.ListN.{length, replicate}
 use Rattle.slots.specs.Slots.{freshSlots}
 use Rattle.rules.specs.declared.Answer.the-variants.{Begun}
-use Rattle.rules.specs.Board.{State, Done, refused, begun}
+use Rattle.rules.specs.Board.{State, refused, begun}
 
 module _ (s : State) where
   pub begun-none : length (s .words) ≡ 0 → begun s ≡ refused 9 s

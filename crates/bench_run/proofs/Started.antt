@@ -5,9 +5,8 @@ use mathlib.Core.Path.{_≡_, _∙_, ap}
 use mathlib.Core.List.{List}
 use Rattle.slots.specs.Slots.{freshSlots}
 use Rattle.slots.specs.declared.Board.{Board}
-use Rattle.rules.specs.Board.{State, Done, begun}
+use Rattle.rules.specs.Board.{begun}
 use Rattle.rules.specs.Leaves.{lentTo}
-use Rattle.runs.specs.Run.{Whole}
 use Rattle.play.specs.Comes.{wholeOf}
 use Rattle.bench_run.specs.Bench.{started}
 

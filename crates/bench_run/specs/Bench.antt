@@ -3,7 +3,7 @@ use Prim.Native.Nat.{ℕ}
 use mathlib.Core.Path.{_≡_}
 use mathlib.Core.List.{List}
 use Rattle.slots.specs.Slots.{freshSlots}
-use Rattle.rules.specs.Board.{State, Done, begun}
+use Rattle.rules.specs.Board.{Done, begun}
 use Rattle.runs.specs.Run.{Whole, reportOf}
 use Rattle.play.specs.Comes.{wholeOf}
 

@@ -1,6 +1,5 @@
 // The board: lent lock words plus a table of 256 request slots, by value. It plays agents and memory in any order.
 // It relies on the contracts of `aim`, `visit` and `slot_map` alone.
-ghost use mathlib.Core.Path.{_≡_};
 ghost use Prim.Native.Nat.{_<_};
 ghost use lib.ListN.{getD};
 ghost use Rattle.request.specs.Request.{freeRequest};

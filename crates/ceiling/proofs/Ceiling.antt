@@ -1,8 +1,7 @@
 -- A clearing word is never 0: it has CEIL in its highest or its second counter.
 -- Assumes nothing.
-use mathlib.Core.Path.{_≡_}
 use native.Mathlib.Omega.{arith}
-use Rattle.ceiling.specs.Ceiling.{clearingWordOf, NONE}
+use Rattle.ceiling.specs.Ceiling.{clearingWordOf}
 use Rattle.ceiling.specs.Promises.{ClearingWordIsSome}
 
 pub clearing-word-is-some : ClearingWordIsSome

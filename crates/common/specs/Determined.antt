@@ -1,7 +1,7 @@
 -- What it means that a contract determines a function: two outcomes that it allows, of the same arguments, are equal.
 -- An outcome is the result and what stands behind each `&mut` afterwards.
 use Prim.Native.Nat.{ℕ}
-use mathlib.Core.Path.{_≡_, _∙_, sym}
+use mathlib.Core.Path.{_≡_}
 use mathlib.Core.List.{List}
 use contract.Lifetimes.{Lfts}
 use denote.Triple.Entry.{Args, Res}

@@ -1,13 +1,12 @@
 -- An entry's bytes give its parts back: the value is its eight digits to the base 256, and a digit with what stands above it makes what stands
 -- there (`digit`).
 -- Assumes nothing.
-use Prim.Native.Nat.{ℕ, _+_, _*_, _<_, _/_, _%_, _^_}
+use Prim.Native.Nat.{ℕ, _+_, _*_, _/_, _%_}
 use mathlib.Core.Path.{_≡_, refl, _∙_}
 use native.Mathlib.Nat.{div-div-eq-div-mul, div-add-mod', div-one}
 use native.Mathlib.Omega.{arith}
-use Rattle.rules.specs.declared.Said.{Said}
 use Rattle.entry.specs.Entry.{entryOf}
-use Rattle.entry.specs.Promises.{ReadsBack, EntryReadsBack}
+use Rattle.entry.specs.Promises.{EntryReadsBack}
 
 digit : (v k : ℕ) → v / (k * 256) * 256 + v / k % 256 ≡ v / k
 digit v k = rw (← div-div-eq-div-mul v k 256) (div-add-mod' (v / k) 256)

@@ -1,7 +1,6 @@
 -- What is promised of report entries. A statement only: proofs/ has why it holds.
 use Prim.Native.Nat.{ℕ, _+_, _*_, _<_, _^_}
 use mathlib.Core.Path.{_≡_}
-use mathlib.Core.List.{List}
 use lib.ListN.{length, getD}
 use Rattle.rules.specs.declared.Said.{Said}
 use Rattle.entry.specs.Entry.{ENTRY, entryOf}

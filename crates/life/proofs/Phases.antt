@@ -2,7 +2,7 @@
 -- the functions here, which all turn the kept number into its phase first.
 -- Assumes nothing.
 use Prim.Native.Nat.{ℕ}
-use mathlib.Core.Path.{_≡_, refl, ap}
+use mathlib.Core.Path.{_≡_, ap}
 use mathlib.Core.List.{List, [], _∷_}
 use mathlib.Core.Logic.{⊎-elim}
 use native.Mathlib.Omega.{arith}
@@ -13,8 +13,6 @@ use Rattle.life.specs.Life.{stepSends, stepSendsIn, releaseSends, releas
 use Rattle.request.specs.declared.Request.{Request}
 use Rattle.request.specs.declared.Phase.{Phase}
 use Rattle.request.specs.declared.Phase.the-variants.{Free, Asking, Waiting, Held, Owing, Clearing}
-use Rattle.life.specs.declared.Verb.{Verb}
-use Rattle.life.specs.declared.Taken.{Taken}
 use Rattle.request.proofs.Phase as phase
 
 module _ (q : Request) (p : Phase) (e : phaseOf (q .phase) ≡ p) where

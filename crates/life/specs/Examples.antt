@@ -9,7 +9,7 @@ use Rattle.ticket.specs.declared.Ticket.{Ticket}
 use Rattle.request.specs.Request.{phaseNumber, phaseOf, openedRequest}
 use Rattle.request.specs.declared.Request.{Request}
 use Rattle.request.specs.declared.Phase.{Phase}
-use Rattle.request.specs.declared.Phase.the-variants.{Free, Asking, Waiting, Held, Owing, Clearing}
+use Rattle.request.specs.declared.Phase.the-variants.{Free, Waiting, Held, Owing, Clearing}
 use Rattle.life.specs.Life.{leftBy, stepSends, stepTakes}
 use Rattle.life.specs.Answers.{numbersOf}
 use Rattle.life.specs.declared.Taken.{Taken}

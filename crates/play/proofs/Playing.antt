@@ -1,16 +1,16 @@
 -- What is kept while a run goes on: the whole run is what has been played so far and the run from here. A turn plays one record and keeps it.
 -- Assumes nothing.
-use Prim.Native.Nat.{ℕ, zero, suc, _+_, _-_, _*_, _<_, _≤_}
+use Prim.Native.Nat.{ℕ, _+_, _-_, _*_, _<_, _≤_}
 use mathlib.Core.Path.{_≡_, refl, ap, sym, _∙_, subst}
 use mathlib.Core.Bool.{Bool, true, false, _&&_}
 use mathlib.Core.Logic.{⊎-elim}
-use mathlib.Core.List.{List, [], _∷_, _++_, append-assoc, append-nil}
+use mathlib.Core.List.{List, _++_, append-assoc, append-nil}
 use native.Mathlib.Omega.{arith}
-use native.Mathlib.Nat.{zero-add, add-zero, sub-zero, eq-or-lt-of-le}
+use native.Mathlib.Nat.{add-zero, sub-zero, eq-or-lt-of-le}
 use borrow.Author.Tests.{eq-eqb, ne-eqb}
 use lib.Dec.{eqb, ltb}
-use lib.ListN.{length, take, drop, getD, set, length-append, length-take, length-set}
-use lib.Seq.{set-getD, sets, sets-eq, length-sets, drop-append-add, drop-drop, take-at, length-take-le}
+use lib.ListN.{length, take, drop, getD, set, length-append, length-set}
+use lib.Seq.{set-getD, sets-eq, length-sets, drop-append-add, drop-drop, take-at, length-take-le}
 use Rattle.common.specs.Choice.{if_then_else_}
 use Rattle.request.specs.Request.{freeRequest}
 use Rattle.request.specs.declared.Request.{Request}
@@ -31,7 +31,7 @@ use Rattle.slots.specs.Slots.{SLOTS, inUse}
 use Rattle.rules.specs.Board.{State, Done, stateOf, played, slotAt}
 use Rattle.rules.specs.Visit.{stored}
 use Rattle.rules.proofs.Visits.{visit-is-played, aim-small}
-use Rattle.entry.specs.Entry.{ENTRY, entryOf, putOf}
+use Rattle.entry.specs.Entry.{entryOf, putOf}
 use Rattle.entry.proofs.Stores.{fits}
 use Rattle.schedule.specs.Schedule.{nextOf}
 use Rattle.schedule.specs.declared.Next.the-variants.{Record}

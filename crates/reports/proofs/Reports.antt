@@ -23,7 +23,7 @@ use Rattle.play.specs.declared.Ran.{Ran}
 use Rattle.history.specs.History.{Move, fresh, after}
 use Rattle.history.specs.History.Move.{Do}
 use Rattle.history.proofs.Demand.{demand-3}
-use Rattle.reports.specs.Reports.{Runs, noRun, oneMore, entriesFrom, callThen, callsAt}
+use Rattle.reports.specs.Reports.{Runs, noRun, oneMore, entriesFrom, callsAt}
 use Rattle.reports.specs.Promises.{asMoves, callAt, ReportsAreOfHistories}
 
 entry-long : (d : Said) → length (entryOf d) ≡ ENTRY

@@ -1,7 +1,7 @@
 -- A refusal is made of the state itself, and every other answer is none; so a refused call leaves the state. And the table of numbers, computed.
 -- Assumes nothing.
 use Prim.Native.Nat.{ℕ, _<_}
-use mathlib.Core.Path.{_≡_, refl, ap, sym, _∙_}
+use mathlib.Core.Path.{_≡_, refl}
 use mathlib.Core.Bool.{Bool, true, false, not, _||_}
 use native.Mathlib.Omega.{arith}
 use borrow.Author.Tests.{leb-false}
@@ -14,7 +14,7 @@ use Rattle.life.specs.Life.{stepSends, releaseSends, stepTakes, releaseTakes, a
 use Rattle.life.specs.declared.Verb.{Verb}
 use Rattle.life.specs.declared.Taken.{Taken}
 use Rattle.request.specs.declared.Request.{Request}
-use Rattle.slots.specs.Slots.{SLOTS, inUse, lowestFree}
+use Rattle.slots.specs.Slots.{SLOTS, lowestFree}
 use Rattle.slots.proofs.Promises.{lowest-is-free, lower-are-used}
 use Rattle.call.specs.declared.Call.{Call}
 use Rattle.call.specs.declared.Call.the-variants.{Open, Step, Release, Show}

@@ -3,10 +3,10 @@
 use Prim.Native.Nat.{ℕ, _<_}
 use mathlib.Core.Path.{_≡_, refl, ap, sym, _∙_}
 use mathlib.Core.Bool.{Bool, true, false, not, _&&_}
-use mathlib.Core.List.{List, []}
+use mathlib.Core.List.{List}
 use native.Mathlib.Omega.{arith}
-use borrow.Author.Tests.{eq-eqb, ne-eqb, ltb-true}
-use lib.Dec.{eqb, ltb}
+use borrow.Author.Tests.{ne-eqb, ltb-true}
+use lib.Dec.{ltb}
 use lib.ListN.{length, getD, set}
 use Rattle.common.specs.Choice.{if_then_else_}
 use Rattle.request.specs.declared.Request.{Request}
@@ -15,7 +15,7 @@ use Rattle.life.specs.declared.Verb.{Verb}
 use Rattle.life.specs.declared.Taken.{Taken}
 use Rattle.slots.specs.Slots.{inUse}
 use Rattle.rules.specs.Records.{isRecord, isNothing, refusalOf}
-use Rattle.rules.specs.Sent.{Visited, visited, handed, sentVisit}
+use Rattle.rules.specs.Sent.{visited, sentVisit}
 use Rattle.rules.specs.declared.Answer.the-variants.{Refused, Told}
 
 both-left : (a b : Bool) → (a && b) ≡ true → a ≡ true

@@ -1,16 +1,14 @@
 -- A call as a visit of one slot: which slot, and what becomes of its request, of the words, and what is answered. A run plays its records
 -- so; `VisitIsPlayed` says that it is the same as playing the call.
 use Prim.Native.Nat.{ℕ, _%_}
-use mathlib.Core.Bool.{Bool, not}
+use mathlib.Core.Bool.{not}
 use mathlib.Core.List.{List}
-use lib.Dec.{eqb, ltb, leb}
+use lib.Dec.{ltb, leb}
 use lib.ListN.{getD, set}
 use Rattle.common.specs.Choice.{if_then_else_}
 use Rattle.request.specs.Request.{openedRequest}
 use Rattle.request.specs.declared.Request.{Request}
-use Rattle.life.specs.Life.{leftBy, stepSends, releaseSends, stepTakes, releaseTakes}
-use Rattle.life.specs.declared.Verb.{Verb}
-use Rattle.life.specs.declared.Taken.{Taken}
+use Rattle.life.specs.Life.{stepSends, releaseSends, stepTakes, releaseTakes}
 use Rattle.slots.specs.Slots.{SLOTS, inUse}
 use Rattle.slots.specs.Map.{lowestZero}
 use Rattle.call.specs.declared.Call.{Call}

@@ -1,29 +1,23 @@
 -- The three ways a run goes at a place: it halts by the allowance or the room, it leaves where no record stands, or it plays the record and
 -- goes on. And what has been played so far, put in front of the rest.
 -- Assumes nothing.
-use Prim.Native.Nat.{ℕ, zero, suc, _+_, _-_, _*_, _<_, _≤_}
-use mathlib.Core.Path.{_≡_, refl, ap, sym, _∙_}
+use Prim.Native.Nat.{ℕ, zero, suc, _-_, _<_, _≤_}
+use mathlib.Core.Path.{_≡_, refl, ap, sym}
 use mathlib.Core.Bool.{Bool, true, false}
 use mathlib.Core.Logic.{⊎-elim}
-use mathlib.Core.List.{List, [], _∷_, _++_, append-assoc, append-nil}
+use mathlib.Core.List.{List, [], _∷_}
 use native.Mathlib.Omega.{arith}
-use native.Mathlib.Nat.{add-zero}
 use borrow.Author.Tests.{ltb-false}
 use lib.Dec.{eqb, ltb, eqb·suc-zero}
-use lib.ListN.{length, take, drop}
 use types.Run.{OneOf}
 use denote.Enum.Declared.{tagOf}
-use Rattle.common.specs.Choice.{if_then_else_}
 use Rattle.call.specs.declared.Call.{Call}
-use Rattle.rules.specs.Answers.{saidOf, verbsOf}
-use Rattle.rules.specs.declared.Answer.{Answer}
 use Rattle.rules.specs.Board.{State, stateOf, played}
-use Rattle.entry.specs.Entry.{ENTRY, entryOf}
 use Rattle.schedule.specs.Schedule.{nextOf}
 use Rattle.schedule.specs.declared.Next.{Next}
 use Rattle.schedule.specs.declared.Next.the-variants.{Record, End, Unknown, Cut}
 use Rattle.schedule.proofs.Next as next-type
-use Rattle.runs.specs.Run.{Whole, stateAfter, ended, followed, spent, goesOn, runOf, joined}
+use Rattle.runs.specs.Run.{Whole, ended, followed, spent, goesOn, runOf}
 use Rattle.runs.specs.Halts.{isEnd, haltedOf, leavesOf}
 
 -- the places of the answers other than a record among the variants

@@ -4,13 +4,13 @@
 use Prim.Native.Nat.{ℕ, zero, suc, _+_, _-_, _*_}
 use mathlib.Core.Path.{_≡_, refl, ap, sym, _∙_}
 use mathlib.Core.Bool.{Bool, true, false}
-use mathlib.Core.List.{List, [], _++_, append-assoc}
+use mathlib.Core.List.{List, append-assoc}
 use native.Mathlib.Omega.{arith}
 use native.Mathlib.Nat.{zero-add, suc-add}
 use borrow.Author.Tests.{le-ltb}
 use lib.Dec.{ltb}
 use Rattle.call.specs.declared.Call.{Call}
-use Rattle.rules.specs.Answers.{saidOf, verbsOf}
+use Rattle.rules.specs.Answers.{saidOf}
 use Rattle.rules.specs.declared.Answer.{Answer}
 use Rattle.rules.specs.Board.{State, stateOf, played}
 use Rattle.entry.specs.Entry.{ENTRY, entryOf}

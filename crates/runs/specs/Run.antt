@@ -1,5 +1,5 @@
 -- A run: the records of a schedule played one by one, from a place on, within an allowance of records and the room of a report.
-use Prim.Native.Nat.{ℕ, zero, suc, _+_, _-_, _*_}
+use Prim.Native.Nat.{ℕ, zero, suc, _+_, _-_}
 use mathlib.Core.Bool.{Bool, true, false}
 use mathlib.Core.List.{List, [], _++_}
 use lib.Dec.{ltb}
@@ -8,7 +8,7 @@ use Rattle.request.specs.declared.Request.{Request}
 use Rattle.call.specs.declared.Call.{Call}
 use Rattle.rules.specs.Answers.{saidOf, verbsOf}
 use Rattle.rules.specs.declared.Answer.{Answer}
-use Rattle.rules.specs.Board.{State, Done, stateOf, played}
+use Rattle.rules.specs.Board.{State, stateOf, played}
 use Rattle.schedule.specs.Schedule.{nextOf}
 use Rattle.schedule.specs.declared.Next.{Next}
 use Rattle.schedule.specs.declared.Next.the-variants.{Record, End, Unknown, Cut}

@@ -1,6 +1,5 @@
 -- Schedules in bytes: one byte of kind, then a body whose length the kind fixes.
 use Prim.Native.Nat.{ℕ, _+_, _*_, _-_}
-use mathlib.Core.Bool.{Bool}
 use mathlib.Core.List.{List}
 use lib.Dec.{eqb, ltb, leb}
 use lib.ListN.{length, getD}

@@ -3,7 +3,7 @@
 ghost use mathlib.Core.Path.{_≡_};
 ghost use Prim.Native.Nat.{_+_, _*_, _≤_};
 ghost use lib.ListN.{length};
-ghost use Rattle.schedule.specs.Schedule.{bodyOf, pairAt, callAt, nextOf};
+ghost use Rattle.schedule.specs.Schedule.{bodyOf, callAt, nextOf};
 use call::Call;
 
 pub enum Next {

@@ -3,7 +3,7 @@
 ghost use mathlib.Core.Path.{_≡_};
 ghost use mathlib.Core.List.{[]};
 ghost use Rattle.life.specs.Life.{leftBy, stepSends, releaseSends, stepTakes, releaseTakes};
-ghost use Rattle.rules.specs.declared.Answer.the-variants.{Refused, Told};
+ghost use Rattle.rules.specs.declared.Answer.the-variants.{Told};
 ghost use Rattle.rules.specs.Records.{isNothing, refusalOf};
 ghost use Rattle.rules.specs.Sent.{handed, visited, sentVisit};
 use life::Verb;

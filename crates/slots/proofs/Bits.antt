@@ -12,7 +12,6 @@ use lib.Count.{trailingZeros, under, ones, ones-step, ones-ones}
 use lib.ListN.{length, getD, set, take, drop, length-take, length-drop, drop-of-length-le}
 use lib.Seq.{drop-cons, getD-take, getD-drop}
 use lib.Pow.{pow-mono}
-use Rattle.common.specs.Choice.{if_then_else_}
 use Rattle.request.specs.declared.Request.{Request}
 use Rattle.request.specs.Request.{freeRequest}
 use Rattle.slots.specs.Slots.{inUse, lowestFree, usedSlots}

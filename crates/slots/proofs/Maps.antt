@@ -5,7 +5,7 @@ use Prim.Native.Nat.{ℕ, zero, suc, _+_, _*_, _-_, _^_, _/_, _%_, _<_, _≤_}
 use mathlib.Core.Path.{_≡_, refl, ap, sym, _∙_}
 use mathlib.Core.Bool.{Bool, true, false}
 use mathlib.Core.Logic.{_⊎_, inl, inr, ⊎-elim}
-use mathlib.Core.List.{List, [], _∷_, _++_}
+use mathlib.Core.List.{List, []}
 use native.Mathlib.Nat.{eq-or-lt-of-le, zero-add, one-mul, zero-mul, lt-of-lt-of-le}
 use native.Mathlib.Omega.{arith}
 use borrow.Author.Tests.{eq-eqb, ne-eqb, eqb-true, eqb-false, ltb-true, ltb-false}
@@ -18,8 +18,8 @@ use Rattle.common.specs.Choice.{if_then_else_}
 use Rattle.request.specs.declared.Request.{Request}
 use Rattle.request.specs.Request.{freeRequest}
 use Rattle.slots.specs.Slots.{inUse, lowestFree, usedSlots}
-use Rattle.slots.specs.Map.{bitOf, bitsOf, partOf, mapOf, ALL, orAfter, lowestZero, onesOf, plus, markedOf}
-use Rattle.slots.proofs.Bits.{used-or-free, used-bit, free-bit, bit-le, bits-lt, zeros-lowest, lowest-le, all-used, lowest-within, lowest-past, ones-used, used-append, bits-set}
+use Rattle.slots.specs.Map.{bitOf, bitsOf, partOf, mapOf, ALL, lowestZero, onesOf, plus, markedOf}
+use Rattle.slots.proofs.Bits.{used-or-free, used-bit, free-bit, bits-lt, zeros-lowest, lowest-le, all-used, lowest-within, lowest-past, ones-used, used-append, bits-set}
 
 same-or-not : (m n : ℕ) → (m ≡ n) ⊎ (m ≡ n → ⊥)
 same-or-not m n = by (eqb m n) refl

@@ -1,14 +1,12 @@
 -- The promises of the slots: the first two by going along the list, the others from the laws of the map.
 -- Assumes nothing.
-use Prim.Native.Nat.{ℕ, zero, suc, _<_}
+use Prim.Native.Nat.{zero, suc, _<_}
 use mathlib.Core.Path.{_≡_}
 use mathlib.Core.Bool.{true, false}
 use mathlib.Core.Logic.{⊎-elim}
-use mathlib.Core.List.{List, [], _∷_}
+use mathlib.Core.List.{[], _∷_}
 use native.Mathlib.Omega.{arith}
-use lib.ListN.{length, getD}
-use Rattle.request.specs.Request.{freeRequest}
-use Rattle.request.specs.declared.Request.{Request}
+use lib.ListN.{length}
 use Rattle.slots.specs.Slots.{inUse, lowestFree}
 use Rattle.slots.specs.Promises.{LowestIsFree, LowerAreUsed, MapFindsLowest, MapCountsUsed, MarkFollowsStore}
 use Rattle.slots.proofs.Bits.{used-or-free}

@@ -1,6 +1,5 @@
 -- The map of four 64-bit numbers: a one for each slot in use, slot 0 lowest in the first of them.
-use Prim.Native.Nat.{ℕ, zero, suc, _+_, _*_, _-_, _^_, _/_, _%_}
-use mathlib.Core.Bool.{Bool, true, false}
+use Prim.Native.Nat.{ℕ, zero, _+_, _*_, _-_, _^_, _/_, _%_}
 use mathlib.Core.List.{List, [], _∷_}
 use lib.Count.{trailingZeros, ones}
 use lib.Dec.{eqb}

@@ -2,12 +2,11 @@
 -- and what stands above it make what stands there (`digit`), and three times over that is the whole word. The other way
 -- round, each digit below 2^16 is what the division leaves.
 -- Assumes nothing.
-use Prim.Native.Nat.{ℕ, _+_, _*_, _<_, _/_, _%_, _^_}
+use Prim.Native.Nat.{ℕ, _+_, _*_, _/_, _%_}
 use mathlib.Core.Path.{_≡_, _∙_}
 use native.Mathlib.Nat.{div-div-eq-div-mul, div-add-mod', div-one}
 use native.Mathlib.Omega.{arith}
-use Rattle.word.specs.Word.{splitOf, joinOf}
-use Rattle.word.specs.Promises.{Narrow, WordComesBack, CountersComeBack}
+use Rattle.word.specs.Promises.{WordComesBack, CountersComeBack}
 use Rattle.word.specs.declared.Counters.{Counters}
 
 digit : (w k : ℕ) → w / (k * 65536) * 65536 + w / k % 65536 ≡ w / k

@@ -1,6 +1,5 @@
 -- `aim::aim` meets its contract: each arm is the clause of `aimOf`.
 -- Assumes nothing.
-use mathlib.Core.Path.{_≡_, _∙_, sym, ap}
 use Rattle.rules.specs.Visit.{aimOf}
 use borrow.Author.Needs.{needs}
 use Rattle.aim.proofs.aim.Statement.{statement}

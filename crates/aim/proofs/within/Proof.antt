@@ -1,6 +1,6 @@
 -- `aim::within` meets its contract: its test is the test of `withinBoard`.
 -- Assumes nothing.
-use borrow.Author.Tests.{lt-ltb, le-ltb, le-leb, lt-leb}
+use borrow.Author.Tests.{le-leb, lt-leb}
 use Rattle.aim.proofs.within.Statement.{statement}
 use Rattle.aim.proofs.within.Tie as tie
 

@@ -1,6 +1,6 @@
 -- `visit::named_slot` meets its contract: each arm is the clause of `namedSlot`.
 -- Assumes nothing.
-use mathlib.Core.Path.{_≡_, _∙_, sym, ap}
+use mathlib.Core.Path.{sym, ap}
 use Rattle.rules.specs.Answers.{namedSlot}
 use borrow.Author.Needs.{needs}
 use Rattle.answer.proofs.named_slot.Statement.{statement}

@@ -1,7 +1,5 @@
 -- `visit::tell` meets its contract: each arm is the clause of `saidWith`, with the slot that the call names.
 -- Assumes nothing.
-use mathlib.Core.Path.{_≡_, _∙_, sym, ap}
-use Rattle.rules.specs.Answers.{saidWith}
 use borrow.Author.Needs.{needs}
 use Rattle.answer.proofs.tell.Statement.{statement}
 use Rattle.answer.proofs.tell.Tie as tie

@@ -1,8 +1,6 @@
 -- `answer::verbs_of` meets its contract: nothing is counted for a refusal, and for the rest by the kind of the call.
 -- Assumes nothing.
-use mathlib.Core.Path.{_≡_, _∙_, sym, ap}
-use mathlib.Core.Bool.{Bool}
-use Prim.Native.Nat.{ℕ}
+use mathlib.Core.Path.{_∙_, sym, ap}
 use Rattle.common.specs.Choice.{if_then_else_}
 use Rattle.call.specs.declared.Call.{Call}
 use Rattle.rules.specs.declared.Said.{Said}

@@ -1,6 +1,6 @@
 -- `begins::begin` meets its contract: its two tests are those of `begun`.
 -- Assumes nothing.
-use mathlib.Core.Path.{_≡_, _∙_, sym, ap}
+use mathlib.Core.Path.{_∙_, sym, ap}
 use denote.Ref.{now}
 use Rattle.rules.specs.Board.{Done}
 use Rattle.rules.specs.Leaves.{lentTo}

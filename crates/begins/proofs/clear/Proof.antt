@@ -1,9 +1,8 @@
 -- `begins::clear` meets its contract: after i turns the first i words are 0 and the others as lent.
 -- Assumes nothing.
 use Prim.Native.Nat.{ℕ, _≤_, _-_}
-use mathlib.Core.Path.{_≡_, _∙_, refl, sym, ap}
-use mathlib.Core.List.{List, [], _++_, append-nil}
-use borrow.Author.Needs.{needs}
+use mathlib.Core.Path.{_≡_, _∙_, refl, ap}
+use mathlib.Core.List.{List, _++_, append-nil}
 use borrow.Author.Fill.{fill-more}
 use native.Mathlib.Omega.{arith}
 use denote.Ref.{now}

@@ -1,6 +1,6 @@
 -- `brancove_bench_run` meets its contract: `begin` leaves what the definition starts from, and `run` plays the rest.
 -- Assumes nothing.
-use mathlib.Core.Path.{_≡_, _∙_, ap}
+use mathlib.Core.Path.{_∙_, ap}
 use denote.Ref.{now}
 use borrow.Author.Needs.{needs}
 use Rattle.runs.specs.Run.{Whole, reportOf}

@@ -1,6 +1,6 @@
 -- `board::placed` meets its contract: the slot gets what the visit makes of its request.
 -- Assumes nothing.
-use mathlib.Core.Path.{_≡_, _∙_, sym, ap}
+use mathlib.Core.Path.{ap}
 use Rattle.rules.specs.declared.Seen.{Seen}
 use lib.ListN.{set}
 use Rattle.request.specs.declared.Request.{Request}

@@ -1,5 +1,5 @@
 -- It is safe and ends: a loop that counts up to a bound. Assumes nothing.
-use Prim.Native.Nat.{ℕ, _≤_, _-_}
+use Prim.Native.Nat.{_-_}
 use borrow.Author.Needs.{needs}
 use Rattle.cases_play.proofs.main.Statement.{statement}
 use Rattle.cases_play.proofs.main.Tie as tie

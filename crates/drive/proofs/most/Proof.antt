@@ -1,8 +1,7 @@
 -- It is safe and ends: a loop that counts up to a bound. Assumes nothing.
-use Prim.Native.Nat.{ℕ, _≤_, _-_}
+use Prim.Native.Nat.{_≤_, _-_}
 use mathlib.Core.Path.{_≡_}
-use native.Mathlib.Omega.{arith}
-use lib.ListN.{length, length-set}
+use lib.ListN.{length}
 use borrow.Author.Needs.{needs}
 use Rattle.drive.proofs.most.Statement.{statement}
 use Rattle.drive.proofs.most.Tie as tie

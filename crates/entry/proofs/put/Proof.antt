@@ -1,6 +1,5 @@
 -- `entry::put` meets its contract: its two tests say that the entry does not fit; else its twelve bytes are stored one by one.
 -- Assumes nothing.
-use mathlib.Core.Path.{_≡_, _∙_, sym, ap}
 use native.Mathlib.Omega.{arith}
 use native.Mathlib.Nat.{div-one}
 use denote.Ref.{now}

@@ -1,6 +1,6 @@
 -- `schedule::body` meets its contract: an arm with a number is `bodyOf` at that number; in `_` each test of `bodyOf` fails.
 -- Assumes nothing.
-use mathlib.Core.Path.{_≡_, _∙_, sym, ap}
+use mathlib.Core.Path.{sym, ap}
 use borrow.Author.Tests.{ne-eqb}
 use Rattle.schedule.specs.Schedule.{bodyOf}
 use Rattle.schedule.proofs.body.Statement.{statement}

@@ -1,6 +1,6 @@
 -- `schedule::call_at` meets its contract: each arm reads the body of its kind, which is all there.
 -- Assumes nothing.
-use mathlib.Core.Path.{_≡_, _∙_, sym, ap}
+use mathlib.Core.Path.{ap}
 use native.Mathlib.Omega.{arith}
 use borrow.Author.Tests.{ne-eqb}
 use Rattle.schedule.specs.Schedule.{bodyOf, callAt}

@@ -1,7 +1,6 @@
 -- `schedule::next_at` meets its contract: its tests are those of `nextOf`, in its order.
 -- Assumes nothing.
-use mathlib.Core.Path.{_≡_, _∙_, sym, ap}
-use native.Mathlib.Omega.{arith}
+use mathlib.Core.Path.{sym}
 use borrow.Author.Tests.{le-leb, lt-leb, lt-ltb, le-ltb, eq-eqb, ne-eqb}
 use Rattle.schedule.specs.Schedule.{nextOf}
 use borrow.Author.Needs.{needs}

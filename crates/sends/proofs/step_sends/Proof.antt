@@ -1,7 +1,6 @@
 -- `sends::step_sends` meets its contract: in each arm the phase is the arm's, and what is sent is what that phase sends.
 -- Assumes nothing.
-use mathlib.Core.Path.{_∙_, sym, refl}
-use Rattle.life.specs.Life.{stepSends}
+use mathlib.Core.Path.{_∙_, sym}
 use Rattle.request.specs.declared.Phase.the-variants.{Free, Asking, Waiting, Held, Owing, Clearing}
 use Rattle.life.proofs.Phases.{step-sends-in}
 use borrow.Author.Needs.{needs}

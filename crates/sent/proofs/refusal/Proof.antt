@@ -1,6 +1,6 @@
 -- `visit::refusal` meets its contract: its tests are those of `refusalOf`, in its order.
 -- Assumes nothing.
-use mathlib.Core.Path.{_≡_, _∙_, sym, ap}
+use mathlib.Core.Path.{_∙_, sym}
 use Rattle.rules.specs.Records.{refusalOf}
 use borrow.Author.Needs.{needs}
 use Rattle.sent.proofs.refusal.Statement.{statement}

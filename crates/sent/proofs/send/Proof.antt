@@ -1,6 +1,6 @@
 -- `visit::send` meets its contract: each arm calls the verb that `leftBy` names.
 -- Assumes nothing.
-use mathlib.Core.Path.{_≡_, _∙_, sym, ap}
+use mathlib.Core.Path.{_∙_, sym, ap}
 use denote.Ref.{now}
 use Rattle.life.specs.Life.{leftBy}
 use Rattle.life.specs.declared.Verb.{Verb}

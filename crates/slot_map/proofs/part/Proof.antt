@@ -1,9 +1,9 @@
 use borrow.Author.Needs.{needs}
 use native.Mathlib.Omega.{arith}
-use Prim.Native.Nat.{ℕ, suc, _≤_, _<_, _-_, _+_, _*_, _^_}
+use Prim.Native.Nat.{ℕ, _≤_, _<_, _-_, _+_, _^_}
 use mathlib.Core.Path.{_≡_, sym, _∙_, ap}
 use lib.ListN.{length, getD, take, drop, length-map, length-drop}
-use Rattle.slots.specs.Map.{bitsOf, bitOf}
+use Rattle.slots.specs.Map.{bitsOf}
 use Rattle.slots.proofs.Bits.{bit-le, bits-room, no-bits, collected}
 use Rattle.request.specs.Request.{freeRequest}
 use Rattle.slot_map.proofs.part.Statement.{statement}

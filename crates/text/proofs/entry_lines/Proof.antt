@@ -1,5 +1,5 @@
 -- It is safe and ends: a loop that counts up to a bound. Assumes nothing.
-use Prim.Native.Nat.{ℕ, _≤_, _-_}
+use Prim.Native.Nat.{_≤_, _-_}
 use borrow.Author.Needs.{needs}
 use Rattle.text.proofs.entry_lines.Statement.{statement}
 use Rattle.text.proofs.entry_lines.Tie as tie

@@ -1,6 +1,5 @@
 -- `views::show` meets its contract: its two tests are those of `isRecord`.
 -- Assumes nothing.
-use mathlib.Core.Path.{_≡_, _∙_, sym, ap}
 use borrow.Author.Tests.{le-ltb, lt-ltb}
 use mathlib.Core.Bool.{and-false}
 use Rattle.rules.specs.Board.{shown}

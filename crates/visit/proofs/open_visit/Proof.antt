@@ -1,6 +1,6 @@
 -- `visit::open_visit` meets its contract: its tests are those of `openVisit`, in its order.
 -- Assumes nothing.
-use mathlib.Core.Path.{_≡_, _∙_, sym, ap}
+use mathlib.Core.Path.{_∙_, sym}
 use native.Mathlib.Omega.{arith}
 use denote.Ref.{now}
 use lib.ListN.{length}

@@ -1,8 +1,7 @@
 -- `visit::visit` meets its contract: each arm is the clause of `visitOf`; a slot above 255 is refused first.
 -- Assumes nothing.
-use mathlib.Core.Path.{_≡_, _∙_, sym, ap}
+use mathlib.Core.Path.{sym}
 use borrow.Author.Tests.{le-leb, lt-leb}
-use denote.Ref.{now}
 use Rattle.rules.specs.Visit.{namedVisit}
 use Rattle.visit.proofs.Words.{open-words, show-words}
 use borrow.Author.Needs.{needs}
