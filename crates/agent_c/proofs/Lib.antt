@@ -1,4 +1,3 @@
 pub mod Takes
 pub mod Sends
-pub mod Readings
 pub mod Determined

@@ -3,9 +3,11 @@
 use Prim.Native.Nat.{ℕ}
 use mathlib.Core.Path.{_≡_}
 use mathlib.Core.List.{List}
+use contract.Monad.{fact}
 use contract.Lifetimes.{Lfts}
 use denote.Triple.Entry.{Args, Res}
 use borrow.Fn.Kinds.{PK, RK, Out, Dens, resT, endedOf}
+use borrow.Fn.World.{World, Pr}
 use denote.Triple.Clauses.{Ended, Lasts, AtExit, atExit}
 
 abbrev pub Determined : (n : ℕ) (ps : List (PK n)) (r : RK n) → Out n ps r → Type 0
@@ -26,3 +28,11 @@ DeterminedOf T Allows =
     Allows κs a z (atExit T κs a ws) →
     Allows κs a z′ (atExit T κs a ws′) →
     (z ≡ z′) × (ws ≡ ws′)
+
+-- What such a contract ensures, at every model of the logic, and that it is one fact: this claim.
+abbrev pub Ensured : Ended → Type 2
+Ensured T = (w : World) (κs : Lfts (T .signature .lifetimes)) → Args (T .signature) κs → Res (T .signature) κs → AtExit T κs → Pr w
+
+pub record Says (T : Ended) (ensures : Ensured T) : Type 2 where
+  pub claim : Claim T
+  pub all : (w : World) (κs : Lfts (T .signature .lifetimes)) (a : Args (T .signature) κs) (r : Res (T .signature) κs) (s : AtExit T κs) → ensures w κs a r s ≡ fact (w .𝓤) (claim κs a r s)

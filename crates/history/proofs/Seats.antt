@@ -10,7 +10,6 @@ use borrow.Author.Tests.{leb-true, leb-false, ltb-false, eqb-false}
 use lib.Dec.{eqb, leb, ltb}
 use lib.ListN.{length}
 use Rattle.ticket.specs.declared.Mode.{Mode}
-use Rattle.life.specs.declared.Answer.the-variants as tells
 use Rattle.slots.specs.Slots.{SLOTS}
 use Rattle.rules.specs.Records.{RECORDS}
 use Rattle.rules.specs.declared.Answer.{Answer}

@@ -1,3 +1,2 @@
-pub mod Readings
 pub mod Determined
 pub mod Promises

@@ -8,9 +8,6 @@ use Rattle.slots.proofs.Bits.{bit-le, bits-room, no-bits, collected}
 use Rattle.request.specs.Request.{freeRequest}
 use Rattle.slot_map.proofs.part.Statement.{statement}
 use Rattle.slot_map.proofs.part.Tie as tie
-use Rattle.slot_map.proofs.part.Reads as reads
-use Rattle.slot_map.proofs.part.Lts as lts
-use Rattle.slot_map.proofs.bit.Reads as bit-reads
 
 abbrev Inv-loop : tie.InvT-loop
 Inv-loop from b bits₀ j₀ bits j = (j ≤ 64) × ((length (b .slots) ≡ 256) × (bits ≡ bitsOf (drop j (take 64 (drop from (b .slots))))))

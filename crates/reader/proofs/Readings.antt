@@ -1,2 +1,0 @@
-pub mod new
-pub mod next
