@@ -1,3 +1,6 @@
+-- `slot_map::part` meets its contract. From the last slot down it collects one bit for each: what is collected are the bits of the slots from j on
+-- (`collected`), and before each turn there is room for one digit more.
+-- Assumes nothing.
 use borrow.Author.Needs.{needs}
 use native.Mathlib.Omega.{arith}
 use Prim.Native.Nat.{ℕ, _≤_, _<_, _-_, _+_, _^_}
@@ -15,13 +18,11 @@ Inv-loop from b bits₀ j₀ bits j = (j ≤ 64) × ((length (b .slots) ≡ 256)
 abbrev μ-loop : tie.MeasureT-loop
 μ-loop from b bits₀ j₀ bits j = j
 
--- src/lib.rt:60:5
 loop-holds : tie.Need-loop-holds Inv-loop μ-loop
 loop-holds c =
     let long : length (c .args .t1 .slots) ≡ 256 = sym (length-map (c .args .t1 .slots) _) ∙ c .good .0 .1 .1 .0 .1 .0 .1 in
     (omega arith, (long, sym (no-bits (drop (c .args .from) (c .args .t1 .slots)) (rw length-drop (omega arith)))))
 
--- src/lib.rt:61:9
 -- what has been collected leaves room for one digit more
 room : (c : tie.In-loop Inv-loop μ-loop) → c .before .loop .bits < 2 ^ 63
 room c = rw (c .before .loop .inv .1 .1) (bits-room (drop (c .before .before .args .from) (c .before .before .args .t1 .slots)) (c .before .loop .j) (c .loop-test .taken))
@@ -29,37 +30,29 @@ room c = rw (c .before .loop .inv .1 .1) (bits-room (drop (c .before .before .ar
 sub-j : tie.Need-sub-j Inv-loop μ-loop
 sub-j c = omega arith
 
--- src/lib.rt:62:16
 mul-bits : tie.Need-mul-bits Inv-loop μ-loop
 mul-bits c = omega (arith, room c)
 
--- src/lib.rt:62:39
 add-bit : tie.Need-add-bit Inv-loop μ-loop
 add-bit c = omega arith
 
--- src/lib.rt:62:31
 mul-bit : tie.Need-mul-bit Inv-loop μ-loop
 mul-bit c = search needs
 
--- src/lib.rt:62:31
 element-copy-out-bit : tie.Need-element-copy-out-bit Inv-loop μ-loop
 element-copy-out-bit c = omega arith
 
--- src/lib.rt:62:27
 bit-requires : tie.Need-bit-requires Inv-loop μ-loop
 bit-requires c κs = search needs
 
--- src/lib.rt:62:16
 add-bits : tie.Need-add-bits Inv-loop μ-loop
 add-bits c =
     let a = c .before .before .before .before .args in
     omega (arith, room (c .before .before), c .bit .ensures, bit-le (getD (a .t1 .slots) (a .from + (c .before .before .before .loop .j - 1)) freeRequest))
 
--- src/lib.rt:60:5
 loop-less : tie.Need-loop-less Inv-loop μ-loop
 loop-less c = omega arith
 
--- src/lib.rt:60:5
 loop-again : tie.Need-loop-again Inv-loop μ-loop
 loop-again c =
     let a = c .before .before .before .before .args in
@@ -71,7 +64,6 @@ loop-again c =
       ),
     )
 
--- src/lib.rt:54:1
 returns : tie.Need-returns Inv-loop μ-loop
 returns c =
     let l = c .before .loop in
