@@ -20,7 +20,8 @@ use Rattle.call.specs.declared.Call.{Call}
 use Rattle.call.specs.declared.Call.the-variants.{Open, Step, Release, Show}
 use Rattle.rules.specs.Answers.{saidOf, sends, verbsOf}
 use Rattle.rules.specs.Sent.{Visited}
-use Rattle.rules.specs.Visit.{aimOf, visitOf}
+use Rattle.rules.specs.Visit.{aimOf, openVisit, visitOf}
+use Rattle.turns.specs.Turns.{reported}
 use Rattle.waits.specs.Waits.{stillAhead, steppedSlot}
 use Rattle.rules.specs.declared.Said.{Said}
 use Rattle.rules.specs.declared.Answer.{Answer}
@@ -30,7 +31,7 @@ use Rattle.life.specs.declared.Answer.the-variants.{Waiting}
 use Rattle.slots.specs.Slots.{SLOTS, inUse}
 use Rattle.rules.specs.Board.{State, Done, stateOf, played, slotAt}
 use Rattle.rules.specs.Visit.{stored}
-use Rattle.rules.proofs.Visits.{visit-is-played, aim-small}
+use Rattle.rules.proofs.Visits.{visit-is-played, aim-small, open-leaves}
 use Rattle.entry.specs.Entry.{entryOf, putOf}
 use Rattle.entry.proofs.Stores.{fits}
 use Rattle.schedule.specs.Schedule.{nextOf}
@@ -139,6 +140,11 @@ waits-verb (Step k) n small = refl
 waits-verb (Release k) n small = absurd (omega arith)
 waits-verb (Show r) n small = absurd (omega arith)
 
+-- an open sends no verb
+open-sends-none : (r m n : ℕ) (a : Answer) → n + verbsOf (Open r m) a ≡ n
+unfolding verbsOf
+open-sends-none r m n a = add-zero n
+
 unmarked : (b : Bool) (m x y : List ℕ) → m ≡ (if b then (if b then m else x) else (if b then y else m))
 unmarked true m x y = refl
 unmarked false m x y = refl
@@ -177,17 +183,17 @@ module _
   pub plays-one :
       (i : ℕ) →
       i ≡ aimOf c map →
-      (words′ : List ℕ) (request : Request) (answer : Answer) →
+      (words′ : List ℕ) (request : Request) →
       words′ ≡ visitOf c i (getD slots i freeRequest) words .words →
       request ≡ visitOf c i (getD slots i freeRequest) words .request →
-      answer ≡ visitOf c i (getD slots i freeRequest) words .answer →
       length words′ ≡ length words →
       (map′ report′ : List ℕ) (verbs′ : ℕ) →
       map′ ≡ markedOf map i (getD slots i freeRequest) request →
-      report′ ≡ putOf report (records * 12) (saidOf c answer) →
-      verbs′ ≡ verbs + verbsOf c answer →
+      report′ ≡ reported report (records * 12) c (visitOf c i (getD slots i freeRequest) words) →
+      verbs′ ≡ verbs + verbsOf c (visitOf c i (getD slots i freeRequest) words .answer) →
       Playing slots₀ words₀ bytes at allowance report₀ words′ report′ (set slots i request) map′ after (records + 1) verbs′
-  plays-one i aim words′ request answer ew eq ea lw map′ report′ verbs′ em er ev =
+  plays-one i aim words′ request ew eq lw map′ report′ verbs′ em er ev =
+      let answer = visitOf c i (getD slots i freeRequest) words .answer in
       let p = turn .inv in
       let s : State = record { slots = slots; words = words } in
       let room = length report₀ - records * 12 in
@@ -199,7 +205,7 @@ module _
       let small : i < 256 = rw aimed (aim-small c (mapOf slots)) in
       let visit : played c s ≡ stored s i (visitOf c i (getD slots i freeRequest) words) =
       visit-is-played c s (p .long) ∙ ap (λ (k : ℕ). stored s k (visitOf c k (slotAt s k) words)) (sym aimed) in
-      let told : played c s .answer ≡ answer = ap (λ (d : Done). d .answer) visit ∙ sym ea in
+      let told : played c s .answer ≡ answer = ap (λ (d : Done). d .answer) visit in
       let left : stateOf (played c s) ≡ record { slots = set slots i request; words = words′ } =
       ap stateOf visit ∙ ap (λ (q : Request). record { slots = set slots i q; words = visitOf c i (getD slots i freeRequest) words .words }) (sym eq) ∙
       ap (λ (w : List ℕ). record { slots = set slots i request; words = w }) (sym ew) in
@@ -259,12 +265,32 @@ module _
       let i = aimOf c map in
       let q = getD slots i freeRequest in
       let e = waits-visit c map slots words k n (sym ek) small (sym en) ne in
+      let told : Told (Waiting n) ≡ visitOf c i q words .answer = sym (ap (λ (v : Visited). v .answer) e) in
       subst
       (λ (l : List Request). Playing slots₀ words₀ bytes at allowance report₀ words report′ l map after (records + 1) (verbs + 1))
       (set-getD slots i freeRequest)
-      (plays-one i refl words q
-      (Told (Waiting n)) (sym (ap (λ (v : Visited). v .words) e)) (sym (ap (λ (v : Visited). v .request) e)) (sym (ap (λ (v : Visited). v .answer) e))
-      refl map report′ (verbs + 1) (map-stays map i q) er (ap (λ (x : ℕ). verbs + x) (sym (waits-verb c n (subst (λ (x : ℕ). x < SLOTS) ek small)))))
+      (plays-one i refl words q (sym (ap (λ (v : Visited). v .words) e)) (sym (ap (λ (v : Visited). v .request) e)) refl map report′ (verbs + 1) (map-stays map i q)
+      (er ∙ ap (λ (a : Answer). putOf report (records * 12) (saidOf c a)) told)
+      (ap (λ (x : ℕ). verbs + x) (sym (waits-verb c n (subst (λ (x : ℕ). x < SLOTS) ek small)) ∙ ap (verbsOf c) told)))
+
+  -- one open played: the words and the count of verbs stay
+  pub opens-one :
+      (r m : ℕ) →
+      c ≡ Open r m →
+      (i : ℕ) →
+      i ≡ aimOf (Open r m) map →
+      (request : Request) →
+      request ≡ openVisit r m i (getD slots i freeRequest) words .request →
+      (map′ report′ : List ℕ) →
+      map′ ≡ markedOf map i (getD slots i freeRequest) request →
+      report′ ≡ reported report (records * 12) (Open r m) (openVisit r m i (getD slots i freeRequest) words) →
+      Playing slots₀ words₀ bytes at allowance report₀ words report′ (set slots i request) map′ after (records + 1) verbs
+  opens-one r m opens i aim request eq map′ report′ em er =
+      let q = getD slots i freeRequest in
+      let v : visitOf c i q words ≡ openVisit r m i q words = ap (λ (x : Call). visitOf x i q words) opens in
+      plays-one i (aim ∙ ap (λ (x : Call). aimOf x map) (sym opens)) words request (sym (ap (λ (x : Visited). x .words) v ∙ open-leaves r m i q words)) (eq ∙ sym (ap (λ (x : Visited). x .request) v)) refl map′ report′ verbs em
+      (er ∙ ap (λ (x : Call). reported report (records * 12) x (visitOf x i q words)) (sym opens))
+      (sym (ap (λ (x : Call). verbs + verbsOf x (visitOf c i q words .answer)) opens ∙ open-sends-none r m verbs (visitOf c i q words .answer)))
 
 -- where the run ends: what has been played so far is the whole
 module _

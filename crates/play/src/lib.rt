@@ -1,6 +1,6 @@
 // A run: plays the records of a schedule one by one and reports each in 12 bytes. The board is in one local and its map in another, so that
-// no record copies the table. A step that goes on waiting, which changes no slot and no word, is reported and counted without a visit. It relies
-// on the contracts of the crates that it calls alone.
+// no record copies the table. A step that goes on waiting, which changes no slot and no word, is reported and counted without a visit; an open goes
+// its own way, without what only steps and releases need. It relies on the contracts of the crates that it calls alone.
 ghost use mathlib.Core.Path.{_≡_};
 ghost use Rattle.life.specs.declared.Answer.the-variants.{Waiting};
 ghost use Rattle.rules.specs.Answers.{saidOf};
@@ -31,6 +31,18 @@ fn put_waiting(report: &mut [u8], at: usize, c: Call, ahead: u64)
     );
 }
 
+fn came_to(ending: u8, records: usize, bytes: usize, verbs: usize, board: Board) -> Ran
+    ensures { λ r. ⌜ r ≡ record { ending = ending; records = records; bytes = bytes; verbs = verbs; board = board } ⌝ }
+{
+    Ran {
+        ending,
+        records,
+        bytes,
+        verbs,
+        board,
+    }
+}
+
 // Plays the schedule from a place on, within an allowance of records and the room of the report.
 pub fn run(
     b: Board,
@@ -52,22 +64,10 @@ pub fn run(
         let room = report.len() - records * 12;
         let stop = halts::halted(next, records == allowance, room);
         if stop != 0 {
-            return Ran {
-                ending: stop,
-                records,
-                bytes: place - at,
-                verbs,
-                board: cur,
-            };
+            return came_to(stop, records, place - at, verbs, cur);
         }
         let Next::Record(c, after) = next else {
-            return Ran {
-                ending: halts::left_by(next),
-                records,
-                bytes: place - at,
-                verbs,
-                board: cur,
-            };
+            return came_to(halts::left_by(next), records, place - at, verbs, cur);
         };
         let k = records * 12;
         records += 1;
@@ -81,14 +81,20 @@ pub fn run(
                 continue;
             }
         }
-        let i = aim::aim(c, map);
-        let q = cur.slots[i];
-        let d = visit::visit(c, i, q, words);
-        let request = d.request;
-        let answer = d.answer;
-        cur.slots[i] = request;
-        map = slot_map::marked(map, i, q, request);
-        entry::put(report, k, answer::tell(c, answer));
-        verbs += answer::verbs_of(c, answer);
+        let Call::Open(record, mode) = c else {
+            let i = aim::aim(c, map);
+            let q = cur.slots[i];
+            let t = turns::turn(c, i, q, words, report, k);
+            let request = t.request;
+            cur.slots[i] = request;
+            map = slot_map::marked(map, i, q, request);
+            verbs += t.verbs;
+            continue;
+        };
+        let o = aim::aim(c, map);
+        let was = cur.slots[o];
+        let opened = turns::open_turn(record, mode, o, was, words, report, k);
+        cur.slots[o] = opened;
+        map = slot_map::marked(map, o, was, opened);
     }
 }

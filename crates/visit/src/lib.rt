@@ -1,30 +1,12 @@
 // One call as a visit of one slot: what becomes of its request and of the lent words. No table of slots is handled here, so that whoever holds one
-// copies none of it for a call. It relies on the contracts of `sent`, `records`, `request` and `table` alone.
+// copies none of it for a call. It relies on the contracts of `opens`, `sent` and `records` alone.
 ghost use mathlib.Core.Path.{_≡_};
 ghost use Rattle.rules.specs.Sent.{handed};
-ghost use Rattle.rules.specs.Visit.{visitOf, openVisit, showVisit};
+ghost use Rattle.rules.specs.Visit.{visitOf, showVisit};
 use call::Call;
 use request::Request;
 use rules::Answer;
 use rules::Seen;
-
-fn open_visit(record: u64, mode: u64, i: usize, q: Request, words: &[u64]) -> Seen
-    ensures { λ r. ⌜ r ≡ handed (openVisit «record» mode i q (now (words .entry))) ⌝ }
-{
-    if !records::is_record(record, words.len()) {
-        return records::refused(q, 2);
-    }
-    if 1 < mode {
-        return records::refused(q, 3);
-    }
-    if table::in_use(q) {
-        return records::refused(q, 6);
-    }
-    Seen {
-        request: request::opened(record as u16, mode as u8),
-        answer: Answer::Opened((i % 256) as u8),
-    }
-}
 
 fn show_visit(record: u64, q: Request, words: &[u64]) -> Seen
     ensures { λ r. ⌜ r ≡ handed (showVisit «record» q (now (words .entry))) ⌝ }
@@ -45,7 +27,7 @@ pub fn visit(c: Call, i: usize, q: Request, words: &mut [u64]) -> Seen
     ensures left { λ r. ⌜ now (words .exit) ≡ visitOf c i q (now (words .entry)) .words ⌝ }
 {
     match c {
-        Call::Open(record, mode) => open_visit(record, mode, i, q, words),
+        Call::Open(record, mode) => opens::open_visit(record, mode, i, q, words),
         Call::Step(n) => {
             if 256 <= n {
                 return records::refused(q, 1);

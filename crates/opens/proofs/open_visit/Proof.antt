@@ -1,4 +1,4 @@
--- `visit::open_visit` meets its contract: its tests are those of `openVisit`, in its order.
+-- `opens::open_visit` meets its contract: its tests are those of `openVisit`, in its order.
 -- Assumes nothing.
 use mathlib.Core.Path.{_∙_, sym}
 use native.Mathlib.Omega.{arith}
@@ -8,8 +8,8 @@ use borrow.Author.Tests.{lt-ltb, le-ltb, not-false}
 use Rattle.rules.specs.Visit.{openVisit}
 use Rattle.rules.proofs.Sent.{record-small}
 use borrow.Author.Needs.{needs}
-use Rattle.visit.proofs.open_visit.Statement.{statement}
-use Rattle.visit.proofs.open_visit.Tie as tie
+use Rattle.opens.proofs.open_visit.Statement.{statement}
+use Rattle.opens.proofs.open_visit.Tie as tie
 
 is-record-requires : tie.Need-is-record-requires
 is-record-requires c κs = search needs
