@@ -1,63 +1,43 @@
 // The answers of the agent in the document's numbers. It relies on types alone.
 ghost use mathlib.Core.Path.{_≡_};
-ghost use Rattle.life.specs.Answers.{numbersOf};
+ghost use Rattle.life.specs.Answers.{accepted, refused, numbersOf};
 use life::Answer;
 use life::Numbers;
+
+fn refused(number: u8) -> Numbers
+    ensures { λ r. ⌜ r ≡ refused number ⌝ }
+{
+    Numbers {
+        number,
+        outcome: 0,
+        value: 0,
+    }
+}
+
+fn accepted(outcome: u8, value: u64) -> Numbers
+    ensures { λ r. ⌜ r ≡ accepted outcome value ⌝ }
+{
+    Numbers {
+        number: 0,
+        outcome,
+        value,
+    }
+}
 
 // The document's numbers for an answer.
 pub fn numbers_of(a: Answer) -> Numbers
     ensures { λ r. ⌜ r ≡ numbersOf a ⌝ }
 {
     match a {
-        Answer::WrongPhase => Numbers {
-            number: 5,
-            outcome: 0,
-            value: 0,
-        },
-        Answer::Granted => Numbers {
-            number: 0,
-            outcome: 2,
-            value: 0,
-        },
-        Answer::Waiting(ahead) => Numbers {
-            number: 0,
-            outcome: 3,
-            value: ahead,
-        },
-        Answer::Full => Numbers {
-            number: 0,
-            outcome: 4,
-            value: 0,
-        },
-        Answer::Withdrawn => Numbers {
-            number: 0,
-            outcome: 5,
-            value: 0,
-        },
-        Answer::Released => Numbers {
-            number: 0,
-            outcome: 6,
-            value: 0,
-        },
-        Answer::ClearingDue => Numbers {
-            number: 0,
-            outcome: 7,
-            value: 0,
-        },
-        Answer::Cleared => Numbers {
-            number: 0,
-            outcome: 8,
-            value: 0,
-        },
-        Answer::NotYetClear => Numbers {
-            number: 0,
-            outcome: 9,
-            value: 0,
-        },
-        Answer::Passed => Numbers {
-            number: 0,
-            outcome: 11,
-            value: 0,
-        },
+        Answer::WrongPhase => refused(5),
+        Answer::Granted => accepted(2, 0),
+        Answer::Waiting(ahead) => accepted(3, ahead),
+        Answer::Full => accepted(4, 0),
+        Answer::Withdrawn => accepted(5, 0),
+        Answer::Released => accepted(6, 0),
+        Answer::ClearingDue => accepted(7, 0),
+        Answer::Cleared => accepted(8, 0),
+        Answer::NotYetClear => accepted(9, 0),
+        Answer::Passed => accepted(11, 0),
     }
 }
