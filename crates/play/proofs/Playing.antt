@@ -22,6 +22,7 @@ use Rattle.rules.specs.Answers.{saidOf, sends, verbsOf}
 use Rattle.rules.specs.Sent.{Visited}
 use Rattle.rules.specs.Visit.{aimOf, openVisit, visitOf}
 use Rattle.turns.specs.Turns.{reported}
+use Rattle.turns.specs.declared.Turned.{Turned}
 use Rattle.waits.specs.Waits.{stillAhead, steppedSlot}
 use Rattle.rules.specs.declared.Said.{Said}
 use Rattle.rules.specs.declared.Answer.{Answer}
@@ -124,13 +125,16 @@ spent-test records allowance h =
     (λ (l : records < allowance). ne-eqb (allowance - records) 0 (λ z. omega arith) ∙ sym (ne-eqb records allowance (λ z. omega arith)))
     (eq-or-lt-of-le h)
 
-pub verb-le : (c : Call) (a : Answer) → verbsOf c a ≤ 1
+verb-le : (c : Call) (a : Answer) → verbsOf c a ≤ 1
 unfolding verbsOf
 verb-le c a = at-most (sends c && eqb (saidOf c a .number) 0)
   where
     at-most : (x : Bool) → (if x then 1 else 0) ≤ 1
     at-most true = omega arith
     at-most false = omega arith
+
+pub one-verb : (c : Call) (q : Request) (a : Answer) (t : Turned) → t ≡ record { request = q; verbs = verbsOf c a } → t .verbs ≤ 1
+one-verb c q a t e = rw e (verb-le c a)
 
 -- a step that goes on waiting sends one verb, and its slot's bit stays
 waits-verb : (c : Call) (n : ℕ) → steppedSlot c < SLOTS → verbsOf c (Told (Waiting n)) ≡ 1

@@ -2,7 +2,7 @@
 -- one record and keeps that (`plays-one`, `waits-one`, `opens-one`), and where the run stops nothing is left (`halts-here`, `leaves-here`). The measure is
 -- what is left of the allowance.
 -- Assumes nothing.
-use Prim.Native.Nat.{ℕ, _+_, _-_, _*_, _<_, _≤_}
+use Prim.Native.Nat.{ℕ, _+_, _-_, _*_, _<_, _≤_, _^_}
 use mathlib.Core.Path.{_≡_, _∙_, sym, ap, subst}
 use borrow.Author.Needs.{needs}
 use native.Mathlib.Omega.{arith}
@@ -21,7 +21,7 @@ use Rattle.schedule.proofs.Next as next-type
 use Rattle.runs.specs.Halts.{isEnd, haltedOf, leavesOf}
 use Rattle.runs.proofs.Runs.{others}
 use Rattle.turns.specs.declared.Turned.{Turned}
-use Rattle.play.proofs.Playing.{Playing, Turning, begins, verb-le, turn-bounds, plays-one, waits-one, opens-one, halts-here, leaves-here}
+use Rattle.play.proofs.Playing.{Playing, Turning, begins, one-verb, turn-bounds, plays-one, waits-one, opens-one, halts-here, leaves-here}
 use Rattle.play.proofs.run.Statement.{statement}
 use Rattle.play.proofs.run.Tie as tie
 
@@ -123,11 +123,21 @@ turning c =
       free = stops (c .before .before .before .before) ∙ c .before .before .before .if1 .left;
     }
 
+-- the counts stay small: another record is allowed, its entry fits, and no more verbs than records were sent
+bounds :
+    (c : tie.After-known-told Inv-loop μ-loop) →
+    let a = c .before .before .before .before .before .before .before .before .before .before .before .args in
+    let l = c .before .before .before .before .before .before .loop in
+    (l .records < a .allowance) × ((l .records * 12 + 12 < 2 ^ 64) × (l .verbs ≤ l .records))
+bounds c =
+    let t = turn-bounds (turning c) in
+    (t .0, (omega (arith, t .1, c .before .before .before .before .before .before .before .before .before .before .before .good .1 .1 .1 .1 .1 .0 .0), c .before .before .before .before .before .before .loop .inv .few))
+
 mul-k : tie.Need-mul-k Inv-loop μ-loop
-mul-k c = omega (arith, turn-bounds (turning c) .1, c .before .before .before .before .before .before .before .before .before .before .before .good .1 .1 .1 .1 .1 .0 .0)
+mul-k c = omega (arith, bounds c .1 .0)
 
 add-records : tie.Need-add-records Inv-loop μ-loop
-add-records c = omega (arith, turn-bounds (turning c) .1, c .before .before .before .before .before .before .before .before .before .before .before .good .1 .1 .1 .1 .1 .0 .0)
+add-records c = omega (arith, bounds c .1 .0)
 
 stepped-requires : tie.Need-stepped-requires Inv-loop μ-loop
 stepped-requires c κs = search needs
@@ -145,10 +155,12 @@ put-waiting-requires : tie.Need-put-waiting-requires Inv-loop μ-loop
 put-waiting-requires c κs = search needs
 
 add-verbs : tie.Need-add-verbs Inv-loop μ-loop
-add-verbs c = omega (arith, turn-bounds (turning (c .before .before .before .before .before .before .before .before .before .before)) .1, c .before .before .before .before .before .before .before .before .before .before .before .before .before .before .before .before .before .before .before .before .before .good .1 .1 .1 .1 .1 .0 .0, c .before .before .before .before .before .before .before .before .before .before .before .before .before .before .before .before .loop .inv .few)
+add-verbs c =
+    let w = bounds (c .before .before .before .before .before .before .before .before .before .before) in
+    omega (arith, w .1 .0, w .1 .1)
 
 loop-less : tie.Need-loop-less Inv-loop μ-loop
-loop-less c = omega (arith, turn-bounds (turning (c .before .before .before .before .before .before .before .before .before .before)) .0)
+loop-less c = omega (arith, bounds (c .before .before .before .before .before .before .before .before .before .before) .0)
 
 loop-again : tie.Need-loop-again Inv-loop μ-loop
 loop-again c =
@@ -184,11 +196,11 @@ marked-requires c κs = search needs
 
 add-verbs-2 : tie.Need-add-verbs-2 Inv-loop μ-loop
 add-verbs-2 c =
-    let t = c .before .before .before .before .before .before .before .turn in
-    omega (arith, turn-bounds (turning (c .before .before .before .before .before .before .before .before .before .before .before .before .before .before .before)) .1, c .before .before .before .before .before .before .before .before .before .before .before .before .before .before .before .before .before .before .before .before .before .before .before .before .before .before .good .1 .1 .1 .1 .1 .0 .0, subst (λ (n : ℕ). n ≤ 1) (sym (ap (λ (x : Turned). x .verbs) (t .ensures .0))) (verb-le _ _), c .before .before .before .before .before .before .before .before .before .before .before .before .before .before .before .before .before .before .before .before .before .loop .inv .few)
+    let w = bounds (c .before .before .before .before .before .before .before .before .before .before .before .before .before .before .before) in
+    omega (arith, w .1 .0, w .1 .1, one-verb _ _ _ _ (c .before .before .before .before .before .before .before .turn .ensures .0))
 
 loop-less-2 : tie.Need-loop-less-2 Inv-loop μ-loop
-loop-less-2 c = omega (arith, turn-bounds (turning (c .before .before .before .before .before .before .before .before .before .before .before .before .before .before .before)) .0)
+loop-less-2 c = omega (arith, bounds (c .before .before .before .before .before .before .before .before .before .before .before .before .before .before .before) .0)
 
 loop-again-2 : tie.Need-loop-again-2 Inv-loop μ-loop
 loop-again-2 c =
@@ -218,7 +230,7 @@ marked-requires-2 : tie.Need-marked-requires-2 Inv-loop μ-loop
 marked-requires-2 c κs = search needs
 
 loop-less-3 : tie.Need-loop-less-3 Inv-loop μ-loop
-loop-less-3 c = omega (arith, turn-bounds (turning (c .before .before .before .before .before .before .before .before .before .before .before .before .before)) .0)
+loop-less-3 c = omega (arith, bounds (c .before .before .before .before .before .before .before .before .before .before .before .before .before) .0)
 
 loop-again-3 : tie.Need-loop-again-3 Inv-loop μ-loop
 loop-again-3 c =
