@@ -1,4 +1,4 @@
--- `visit::named_slot` meets its contract: each arm is the clause of `namedSlot`.
+-- `answer::named_slot` meets its contract: each arm is the clause of `namedSlot`.
 -- Assumes nothing.
 use mathlib.Core.Path.{sym, ap}
 use Rattle.rules.specs.Answers.{namedSlot}

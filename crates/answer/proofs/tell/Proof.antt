@@ -1,4 +1,4 @@
--- `visit::tell` meets its contract: each arm is the clause of `saidWith`, with the slot that the call names.
+-- `answer::tell` meets its contract: each arm is the clause of `saidWith`, with the slot that the call names.
 -- Assumes nothing.
 use borrow.Author.Needs.{needs}
 use Rattle.answer.proofs.tell.Statement.{statement}

@@ -1,4 +1,4 @@
--- `visit::refusal` meets its contract: its tests are those of `refusalOf`, in its order.
+-- `sent::refusal` meets its contract: its tests are those of `refusalOf`, in its order.
 -- Assumes nothing.
 use mathlib.Core.Path.{_∙_, sym}
 use Rattle.rules.specs.Records.{refusalOf}

@@ -1,4 +1,4 @@
--- `visit::send` meets its contract: each arm calls the verb that `leftBy` names.
+-- `sent::send` meets its contract: each arm calls the verb that `leftBy` names.
 -- Assumes nothing.
 use mathlib.Core.Path.{_∙_, sym, ap}
 use denote.Ref.{now}

@@ -1,4 +1,4 @@
--- `visit::stepped` meets its contract: each arm is the clause of `steppedSlot`.
+-- `waits::stepped` meets its contract: each arm is the clause of `steppedSlot`.
 -- Assumes nothing.
 use borrow.Author.Tests.{le-leb, lt-leb}
 use borrow.Author.Needs.{needs}

@@ -1,4 +1,4 @@
--- `visit::still_ahead` meets its contract: its tests are those of `stillAhead`, in its order.
+-- `waits::still_ahead` meets its contract: its tests are those of `stillAhead`, in its order.
 -- Assumes nothing.
 use mathlib.Core.Path.{_∙_, sym}
 use denote.Ref.{now}
