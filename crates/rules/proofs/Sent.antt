@@ -15,7 +15,8 @@ use Rattle.life.specs.declared.Verb.{Verb}
 use Rattle.life.specs.declared.Taken.{Taken}
 use Rattle.slots.specs.Slots.{inUse}
 use Rattle.rules.specs.Records.{isRecord, isNothing, refusalOf}
-use Rattle.rules.specs.Sent.{visited, sentVisit}
+use Rattle.rules.specs.Sent.{Visited, visited, handed, sentVisit}
+use Rattle.rules.specs.declared.Seen.{Seen}
 use Rattle.rules.specs.declared.Answer.the-variants.{Refused, Told}
 
 both-left : (a b : Bool) → (a && b) ≡ true → a ≡ true
@@ -35,15 +36,15 @@ pub may-go : (q : Request) (verb : Verb) (ws : List ℕ) → refusalOf q verb ws
 unfolding refusalOf
 may-go q verb ws e = none-refused (inUse q) (isNothing verb) (isRecord (q .«record») ws) e
 
+pub inside : (q : Request) (verb : Verb) (ws : List ℕ) (n : ℕ) → n ≡ refusalOf q verb ws → n ≡ 0 → q .«record» < length ws
+inside q verb ws n why e = record-lent (q .«record») ws (may-go q verb ws (sym why ∙ e))
+
 -- a verb that is the one to send, and the number that was found for it
 module _ (q : Request) (sends : Verb) (takes : ℕ → Taken) (ws : List ℕ) (verb : Verb) (n : ℕ) (same : verb ≡ sends) (why : n ≡ refusalOf q verb ws) where
   found : refusalOf q sends ws ≡ n
   found = ap (λ (v : Verb). refusalOf q v ws) (sym same) ∙ sym why
 
-  pub inside : n ≡ 0 → q .«record» < length ws
-  inside e = record-lent (q .«record») ws (may-go q verb ws (sym why ∙ e))
-
-  pub refused-visit : (n ≡ 0 → ⊥) → sentVisit q sends takes ws ≡ visited q ws (Refused n)
+  refused-visit : (n ≡ 0 → ⊥) → sentVisit q sends takes ws ≡ visited q ws (Refused n)
   unfolding sentVisit
   refused-visit ne = rw found (rw (ne-eqb n 0 ne))
 
@@ -54,6 +55,31 @@ module _ (q : Request) (sends : Verb) (takes : ℕ → Taken) (ws : List ℕ) (v
       sentVisit q sends takes ws ≡ visited (takes v .request) (set ws (q .«record») (leftBy verb v)) (Told (takes v .answer))
   unfolding sentVisit
   accepted-visit e v w = rw (found, e, w, same)
+
+  -- what is handed back, and what is left of the words
+  pub refused-out :
+      (d : Seen) (left : List ℕ) →
+      (n ≡ 0 → ⊥) →
+      d ≡ handed (visited q ws (Refused n)) →
+      left ≡ ws →
+      (d ≡ handed (sentVisit q sends takes ws)) × (left ≡ sentVisit q sends takes ws .words)
+  refused-out d left ne e f = (e ∙ sym (ap handed (refused-visit ne)), f ∙ sym (ap (λ (v : Visited). v .words) (refused-visit ne)))
+
+  pub accepted-out :
+      (d : Seen) (left : List ℕ) →
+      n ≡ 0 →
+      (v : ℕ) →
+      v ≡ getD ws (q .«record») 0 →
+      (t : Taken) →
+      t ≡ takes v →
+      d ≡ handed (visited (t .request) ws (Told (t .answer))) →
+      left ≡ set ws (q .«record») (leftBy verb (getD ws (q .«record») 0)) →
+      (d ≡ handed (sentVisit q sends takes ws)) × (left ≡ sentVisit q sends takes ws .words)
+  accepted-out d left e v w t h f g =
+      let x = accepted-visit e v w in (
+        f ∙ ap (λ (y : Taken). handed (visited (y .request) ws (Told (y .answer)))) h ∙ sym (ap handed x),
+        g ∙ ap (λ (k : ℕ). set ws (q .«record») (leftBy verb k)) (sym w) ∙ sym (ap (λ (y : Visited). y .words) x),
+      )
 
 both-right : (a b : Bool) → (a && b) ≡ true → b ≡ true
 both-right true b e = e

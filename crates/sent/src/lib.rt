@@ -2,6 +2,7 @@
 // here. It relies on the contracts of `verbs`, `sends`, `takes`, `table` and `records` alone.
 ghost use mathlib.Core.Path.{_≡_};
 ghost use mathlib.Core.List.{[]};
+ghost use lib.ListN.{getD, set};
 ghost use Rattle.life.specs.Life.{leftBy, stepSends, releaseSends, stepTakes, releaseTakes};
 ghost use Rattle.rules.specs.declared.Answer.the-variants.{Told};
 ghost use Rattle.rules.specs.Records.{isNothing, refusalOf};
@@ -51,6 +52,28 @@ fn refusal(q: Request, v: Verb, words: &[u64]) -> u8
     2
 }
 
+// What became of a verb: why it did not go out, or 0 and what came back.
+struct Went {
+    number: u8,
+    value: u64,
+}
+
+// Sends a verb to the request's word, if it may go out.
+fn go_out(q: Request, v: Verb, words: &mut [u64]) -> Went
+    ensures number { λ r. ⌜ r .number ≡ refusalOf q v (now (words .entry)) ⌝ }
+    ensures kept { λ r. ⌜ ((r .number ≡ 0 → ⊥) → now (words .exit) ≡ now (words .entry)) ⌝ }
+    ensures value { λ r. ⌜ (r .number ≡ 0 → r .value ≡ getD (now (words .entry)) (q .«record») 0) ⌝ }
+    ensures left { λ r. ⌜ (r .number ≡ 0 → now (words .exit) ≡ set (now (words .entry)) (q .«record») (leftBy v (getD (now (words .entry)) (q .«record») 0))) ⌝ }
+{
+    let number = refusal(q, v, words);
+    if number != 0 {
+        return Went { number, value: 0 };
+    }
+    let r = q.record as usize;
+    let value = send(&mut words[r], v);
+    Went { number: 0, value }
+}
+
 fn told(t: life::Taken) -> Seen
     ensures { λ r. ⌜ r ≡ handed (visited (t .request) [] (Told (t .answer))) ⌝ }
 {
@@ -66,26 +89,20 @@ pub fn step_visit(q: Request, words: &mut [u64]) -> Seen
     ensures said { λ r. ⌜ r ≡ handed (sentVisit q (stepSends q) (stepTakes q) (now (words .entry))) ⌝ }
     ensures left { λ r. ⌜ now (words .exit) ≡ sentVisit q (stepSends q) (stepTakes q) (now (words .entry)) .words ⌝ }
 {
-    let verb = sends::step_sends(q);
-    let n = refusal(q, verb, words);
-    if n != 0 {
-        return records::refused(q, n);
+    let w = go_out(q, sends::step_sends(q), words);
+    if w.number != 0 {
+        return records::refused(q, w.number);
     }
-    let r = q.record as usize;
-    let v = send(&mut words[r], verb);
-    told(takes::step_takes(q, v))
+    told(takes::step_takes(q, w.value))
 }
 
 pub fn release_visit(q: Request, words: &mut [u64]) -> Seen
     ensures said { λ r. ⌜ r ≡ handed (sentVisit q (releaseSends q) (releaseTakes q) (now (words .entry))) ⌝ }
     ensures left { λ r. ⌜ now (words .exit) ≡ sentVisit q (releaseSends q) (releaseTakes q) (now (words .entry)) .words ⌝ }
 {
-    let verb = sends::release_sends(q);
-    let n = refusal(q, verb, words);
-    if n != 0 {
-        return records::refused(q, n);
+    let w = go_out(q, sends::release_sends(q), words);
+    if w.number != 0 {
+        return records::refused(q, w.number);
     }
-    let r = q.record as usize;
-    let v = send(&mut words[r], verb);
-    told(takes::release_takes(q, v))
+    told(takes::release_takes(q, w.value))
 }
