@@ -15,31 +15,31 @@ use Rattle.agent_c.proofs.brancove_split.Kinds as split-kinds
 use Rattle.agent_c.proofs.brancove_split.Reads as split-reads
 
 abbrev ask-says : Says ask.ended (λ w κs a r s. ask.clauses (w .𝓤) (w .H) (w .𝓖 .A) (w .𝓜 .mem) (w .𝓡 .run) κs a .ensures tt r s)
-ask-says = record { claim = _; all = λ w κs a r s. refl }
+ask-says = record { claim = _; exactly = λ w κs a r s. refl }
 
 ask-determined : DeterminedOf ask.ended (ask-says .claim)
 ask-determined κs a z z′ ws ws′ p q = (only-one (p .0) (q .0), rw (only-one (p .1) (q .1)))
 
 abbrev step-sends-says : Says step-sends.ended (λ w κs a r s. step-sends.clauses (w .𝓤) (w .H) (w .𝓖 .A) (w .𝓜 .mem) (w .𝓡 .run) κs a .ensures tt r s)
-step-sends-says = record { claim = _; all = λ w κs a r s. refl }
+step-sends-says = record { claim = _; exactly = λ w κs a r s. refl }
 
 step-sends-determined : DeterminedOf step-sends.ended (step-sends-says .claim)
 step-sends-determined κs a z z′ ws ws′ p q = (only-one (p .0) (q .0), rw (only-one (p .1) (q .1)))
 
 abbrev release-sends-says : Says release-sends.ended (λ w κs a r s. release-sends.clauses (w .𝓤) (w .H) (w .𝓖 .A) (w .𝓜 .mem) (w .𝓡 .run) κs a .ensures tt r s)
-release-sends-says = record { claim = _; all = λ w κs a r s. refl }
+release-sends-says = record { claim = _; exactly = λ w κs a r s. refl }
 
 release-sends-determined : DeterminedOf release-sends.ended (release-sends-says .claim)
 release-sends-determined κs a z z′ ws ws′ p q = (only-one (p .0) (q .0), rw (only-one (p .1) (q .1)))
 
 abbrev step-takes-says : Says step-takes.ended (λ w κs a r s. step-takes.clauses (w .𝓤) (w .H) (w .𝓖 .A) (w .𝓜 .mem) (w .𝓡 .run) κs a .ensures tt r s)
-step-takes-says = record { claim = _; all = λ w κs a r s. refl }
+step-takes-says = record { claim = _; exactly = λ w κs a r s. refl }
 
 step-takes-determined : DeterminedOf step-takes.ended (step-takes-says .claim)
 step-takes-determined κs a z z′ ws ws′ p q = (only-one (p .0) (q .0), rw (only-one (p .1) (q .1)))
 
 abbrev release-takes-says : Says release-takes.ended (λ w κs a r s. release-takes.clauses (w .𝓤) (w .H) (w .𝓖 .A) (w .𝓜 .mem) (w .𝓡 .run) κs a .ensures tt r s)
-release-takes-says = record { claim = _; all = λ w κs a r s. refl }
+release-takes-says = record { claim = _; exactly = λ w κs a r s. refl }
 
 release-takes-determined : DeterminedOf release-takes.ended (release-takes-says .claim)
 release-takes-determined κs a z z′ ws ws′ p q = (only-one (p .0) (q .0), rw (only-one (p .1) (q .1)))

@@ -29,10 +29,11 @@ DeterminedOf T Allows =
     Allows κs a z′ (atExit T κs a ws′) →
     (z ≡ z′) × (ws ≡ ws′)
 
--- What such a contract ensures, at every model of the logic, and that it is one fact: this claim.
+-- What such a contract ensures, at each model of the logic.
 abbrev pub Ensured : Ended → Type 2
 Ensured T = (w : World) (κs : Lfts (T .signature .lifetimes)) → Args (T .signature) κs → Res (T .signature) κs → AtExit T κs → Pr w
 
+-- The claim that a contract makes: at every model, what it ensures is exactly that this claim holds.
 pub record Says (T : Ended) (ensures : Ensured T) : Type 2 where
   pub claim : Claim T
-  pub all : (w : World) (κs : Lfts (T .signature .lifetimes)) (a : Args (T .signature) κs) (r : Res (T .signature) κs) (s : AtExit T κs) → ensures w κs a r s ≡ fact (w .𝓤) (claim κs a r s)
+  pub exactly : (w : World) (κs : Lfts (T .signature .lifetimes)) (a : Args (T .signature) κs) (r : Res (T .signature) κs) (s : AtExit T κs) → ensures w κs a r s ≡ fact (w .𝓤) (claim κs a r s)

@@ -32,7 +32,8 @@ use Rattle.life.specs.declared.Answer.the-variants.{Waiting}
 use Rattle.slots.specs.Slots.{SLOTS, inUse}
 use Rattle.rules.specs.Board.{State, Done, stateOf, played, slotAt}
 use Rattle.rules.specs.Visit.{stored}
-use Rattle.rules.proofs.Visits.{visit-is-played, aim-small, open-leaves}
+use Rattle.rules.proofs.Visits.{visit-is-played, aim-small}
+use Rattle.rules.proofs.Words.{open-words}
 use Rattle.entry.specs.Entry.{entryOf, putOf}
 use Rattle.entry.proofs.Stores.{fits}
 use Rattle.schedule.specs.Schedule.{nextOf}
@@ -292,7 +293,7 @@ module _
   opens-one r m opens i aim request eq map′ report′ em er =
       let q = getD slots i freeRequest in
       let v : visitOf c i q words ≡ openVisit r m i q words = ap (λ (x : Call). visitOf x i q words) opens in
-      plays-one i (aim ∙ ap (λ (x : Call). aimOf x map) (sym opens)) words request (sym (ap (λ (x : Visited). x .words) v ∙ open-leaves r m i q words)) (eq ∙ sym (ap (λ (x : Visited). x .request) v)) refl map′ report′ verbs em
+      plays-one i (aim ∙ ap (λ (x : Call). aimOf x map) (sym opens)) words request (sym (ap (λ (x : Visited). x .words) v ∙ open-words r m i q words)) (eq ∙ sym (ap (λ (x : Visited). x .request) v)) refl map′ report′ verbs em
       (er ∙ ap (λ (x : Call). reported report (records * 12) x (visitOf x i q words)) (sym opens))
       (sym (ap (λ (x : Call). verbs + verbsOf x (visitOf c i q words .answer)) opens ∙ open-sends-none r m verbs (visitOf c i q words .answer)))
 

@@ -31,6 +31,7 @@ fn put_waiting(report: &mut [u8], at: usize, c: Call, ahead: u64)
     );
 }
 
+// The parts of what a run came to, put together.
 fn came_to(ending: u8, records: usize, bytes: usize, verbs: usize, board: Board) -> Ran
     ensures { λ r. ⌜ r ≡ record { ending = ending; records = records; bytes = bytes; verbs = verbs; board = board } ⌝ }
 {

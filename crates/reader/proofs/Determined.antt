@@ -12,13 +12,13 @@ use Rattle.reader.proofs.first.Kinds as first-kinds
 use Rattle.reader.proofs.first.Reads as first-reads
 
 abbrev new-says : Says new.ended (λ w κs a r s. new.clauses (w .𝓤) (w .H) (w .𝓖 .A) (w .𝓜 .mem) (w .𝓡 .run) κs a .ensures tt r s)
-new-says = record { claim = _; all = λ w κs a r s. refl }
+new-says = record { claim = _; exactly = λ w κs a r s. refl }
 
 new-determined : DeterminedOf new.ended (new-says .claim)
 new-determined κs a z z′ ws ws′ p q = (only-one p q, refl)
 
 abbrev next-says : Says next.ended (λ w κs a r s. next.clauses (w .𝓤) (w .H) (w .𝓖 .A) (w .𝓜 .mem) (w .𝓡 .run) κs a .ensures tt r s)
-next-says = record { claim = _; all = λ w κs a r s. refl }
+next-says = record { claim = _; exactly = λ w κs a r s. refl }
 
 next-determined : DeterminedOf next.ended (next-says .claim)
 next-determined κs a z z′ ws ws′ p q = (only-one (p .0) (q .0), rw (only-one (p .1) (q .1)))

@@ -3,3 +3,4 @@ pub mod Visits
 pub mod Promises
 pub mod Told
 pub mod Same
+pub mod Words

@@ -14,7 +14,7 @@ use Rattle.life.specs.Life.{leftBy}
 use Rattle.life.specs.declared.Verb.{Verb}
 use Rattle.life.specs.declared.Taken.{Taken}
 use Rattle.slots.specs.Slots.{inUse}
-use Rattle.rules.specs.Records.{isRecord, isNothing, refusalOf}
+use Rattle.rules.specs.Records.{RECORDS, isRecord, isRecordOf, isNothing, refusalOf}
 use Rattle.rules.specs.Sent.{Visited, visited, handed, sentVisit}
 use Rattle.rules.specs.declared.Seen.{Seen}
 use Rattle.rules.specs.declared.Answer.the-variants.{Refused, Told}
@@ -86,5 +86,5 @@ both-right true b e = e
 both-right false true e = refl
 both-right false false e = e
 
-pub record-small : (r n : ℕ) → (ltb r n && ltb r 4096) ≡ true → r < 4096
-record-small r n e = ltb-true r 4096 (both-right (ltb r n) (ltb r 4096) e)
+pub record-small : (r n : ℕ) → isRecordOf r n ≡ true → r < RECORDS
+record-small r n e = ltb-true r RECORDS (both-right (ltb r n) (ltb r RECORDS) e)

@@ -3,7 +3,7 @@
 -- Assumes nothing.
 use Prim.Native.Nat.{ℕ, _<_, _%_}
 use mathlib.Core.Path.{_≡_, refl, ap, sym}
-use mathlib.Core.Bool.{Bool, true, false, not}
+use mathlib.Core.Bool.{Bool, true, false}
 use mathlib.Core.List.{List}
 use native.Mathlib.Omega.{arith}
 use borrow.Author.Tests.{leb-true, leb-false}
@@ -11,7 +11,7 @@ use lib.Dec.{eqb, ltb, leb}
 use lib.ListN.{length, getD}
 use lib.Seq.{set-getD}
 use Rattle.common.specs.Choice.{if_then_else_}
-use Rattle.request.specs.Request.{freeRequest, openedRequest}
+use Rattle.request.specs.Request.{freeRequest}
 use Rattle.request.specs.declared.Request.{Request}
 use Rattle.life.specs.Life.{stepSends, releaseSends, stepTakes, releaseTakes}
 use Rattle.life.specs.declared.Verb.{Verb}
@@ -25,7 +25,7 @@ use Rattle.rules.specs.Records.{isRecord, refusalOf}
 use Rattle.rules.specs.Sent.{visited, sentVisit}
 use Rattle.rules.specs.Visit.{aimOf, withinBoard, openVisit, showVisit, namedVisit}
 use Rattle.rules.specs.declared.Answer.{Answer}
-use Rattle.rules.specs.declared.Answer.the-variants.{Refused, Opened}
+use Rattle.rules.specs.declared.Answer.the-variants.{Refused}
 use Rattle.rules.specs.Visit.{stored}
 use Rattle.rules.specs.Promises.{VisitIsPlayed}
 use Rattle.rules.specs.Board.{State, refused, sent, opened, stepped, released, shown, slotAt}
@@ -108,14 +108,3 @@ aim-small (Open r n) m = within-small (lowestZero m) (leb SLOTS (lowestZero m)) 
 aim-small (Step i) m = within-small i (leb SLOTS i) refl
 aim-small (Release i) m = within-small i (leb SLOTS i) refl
 aim-small (Show r) m = omega arith
-
--- an open leaves the words, whatever it is answered
-open-words : (a b c : Bool) (q o : Request) (ws : List ℕ) (x y z t : Answer) → (if a then visited q ws x else if b then visited q ws y else if c then visited q ws z else visited o ws t) .words ≡ ws
-open-words true b c q o ws x y z t = refl
-open-words false true c q o ws x y z t = refl
-open-words false false true q o ws x y z t = refl
-open-words false false false q o ws x y z t = refl
-
-pub open-leaves : (r m i : ℕ) (q : Request) (ws : List ℕ) → openVisit r m i q ws .words ≡ ws
-unfolding openVisit
-open-leaves r m i q ws = open-words (not (isRecord r ws)) (ltb 1 m) (inUse q) q (openedRequest r m) ws (Refused 2) (Refused 3) (Refused 6) (Opened (i % 256))

@@ -15,8 +15,11 @@ abbrev pub RECORDS : ℕ
 RECORDS = 4096
 
 -- A record is below the number of words lent, and not above 4,095.
+abbrev pub isRecordOf : ℕ → ℕ → Bool
+isRecordOf r lent = ltb r lent && ltb r RECORDS
+
 abbrev pub isRecord : ℕ → List ℕ → Bool
-isRecord r ws = ltb r (length ws) && ltb r RECORDS
+isRecord r ws = isRecordOf r (length ws)
 
 abbrev pub isNothing : Verb → Bool
 isNothing Nothing = true

@@ -85,6 +85,7 @@ fn told(t: life::Taken) -> Seen
     }
 }
 
+// A step: the verb of its phase goes out, and what came back is taken.
 pub fn step_visit(q: Request, words: &mut [u64]) -> Seen
     ensures said { λ r. ⌜ r ≡ handed (sentVisit q (stepSends q) (stepTakes q) (now (words .entry))) ⌝ }
     ensures left { λ r. ⌜ now (words .exit) ≡ sentVisit q (stepSends q) (stepTakes q) (now (words .entry)) .words ⌝ }
@@ -96,6 +97,7 @@ pub fn step_visit(q: Request, words: &mut [u64]) -> Seen
     told(takes::step_takes(q, w.value))
 }
 
+// A release, in the same way.
 pub fn release_visit(q: Request, words: &mut [u64]) -> Seen
     ensures said { λ r. ⌜ r ≡ handed (sentVisit q (releaseSends q) (releaseTakes q) (now (words .entry))) ⌝ }
     ensures left { λ r. ⌜ now (words .exit) ≡ sentVisit q (releaseSends q) (releaseTakes q) (now (words .entry)) .words ⌝ }

@@ -36,7 +36,7 @@ pub fn turn(
     }
 }
 
-// The same of an open, which sends no verb and leaves the words: what its slot gets. Apart, it is half as much to do.
+// The same of an open, which sends no verb and leaves the words: what its slot gets. It stands apart because there is less to do.
 pub fn open_turn(
     record: u64,
     mode: u64,

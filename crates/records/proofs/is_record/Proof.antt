@@ -1,4 +1,4 @@
--- `records::is_record` meets its contract: its two tests are those of `isRecord`, in its order.
+-- `records::is_record` meets its contract: its two tests are those of `isRecordOf`, in its order.
 -- Assumes nothing.
 use borrow.Author.Tests.{lt-ltb, le-ltb}
 use Rattle.records.proofs.is_record.Statement.{statement}

@@ -3,7 +3,7 @@
 use mathlib.Core.Path.{sym}
 use borrow.Author.Tests.{le-leb, lt-leb}
 use Rattle.rules.specs.Visit.{namedVisit}
-use Rattle.visit.proofs.Words.{open-words, show-words}
+use Rattle.rules.proofs.Words.{open-words, show-words}
 use borrow.Author.Needs.{needs}
 use Rattle.visit.proofs.visit.Statement.{statement}
 use Rattle.visit.proofs.visit.Tie as tie
