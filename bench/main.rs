@@ -47,7 +47,7 @@ fn outcome(run: Run, load: &Load, room: usize) -> (u64, Vec<u64>, Vec<u8>) {
     (verbs, words, report)
 }
 
-/// Runs of the rival on 2 words whose ending, records and bytes are known: the rows of `runs`'s specs/Examples.antt.
+/// Runs of the rival on 2 words whose ending, records and bytes are known: the rows of `run_rules`'s specs/Examples.antt.
 fn wrong_ending() -> Option<String> {
     const WORKED: &[u8] = &[1, 0, 0, 1, 2, 0, 3, 0, 4, 0, 0];
     let rows: [(usize, usize, &[u8], usize, (u8, usize, usize, u64)); 11] = [

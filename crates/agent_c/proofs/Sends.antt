@@ -33,14 +33,14 @@ use denote.Triple.Clauses.{Clauses, closing, ensured, lasts}
 use denote.Triple.Entry.{onEntry}
 use denote.Triple.Spec.{Meets, tripleOf}
 use denote.Triple.Walked.{says, Stays, stay-ref, walkOf, AllGo, goes-ref, Walks, ends-at, walked, walk-meets}
-use Rattle.request.specs.declared.Request.{Request}
-use Rattle.request.proofs.Request as T
-use Rattle.request.proofs.Request.Laws as T′
-use Rattle.life.specs.declared.Verb.{Verb}
-use Rattle.boundary.specs.Boundary.{verbOf}
-use Rattle.boundary.specs.declared.CVerb.{CVerb}
-use Rattle.boundary.proofs.CVerb as K
-use Rattle.boundary.proofs.CVerb.Laws as K′
+use Rattle.agent_request.specs.declared.Request.{Request}
+use Rattle.agent_request.proofs.Request as T
+use Rattle.agent_request.proofs.Request.Laws as T′
+use Rattle.agent_rules.specs.declared.Verb.{Verb}
+use Rattle.agent_c_rules.specs.Boundary.{verbOf}
+use Rattle.agent_c_rules.specs.declared.CVerb.{CVerb}
+use Rattle.agent_c_rules.proofs.CVerb as K
+use Rattle.agent_c_rules.proofs.CVerb.Laws as K′
 -- of these two, the types of the parameters and the result alone, which are those of the other two functions as well
 use Rattle.agent_c.proofs.step_sent as g
 use Rattle.agent_c.proofs.brancove_step_sends as f

@@ -37,16 +37,16 @@ use denote.Triple.Entry.{onEntry}
 use denote.Triple.Spec.{Meets, tripleOf}
 use denote.Triple.Walked.{says, Stays, stay-ref, stay-none, walkOf, AllGo, goes-none, goes-ref, Walks, ends-at, walked, walk-meets}
 use denote.Exit.{yes}
-use Rattle.request.specs.declared.Request.{Request}
-use Rattle.request.proofs.Request as T
-use Rattle.request.proofs.Request.Laws as T′
-use Rattle.life.specs.declared.Taken.{Taken}
-use Rattle.boundary.specs.Boundary.{toldOf, movedOf}
-use Rattle.boundary.specs.declared.Moved.{Moved}
-use Rattle.boundary.proofs.CTold as K
-use Rattle.boundary.proofs.CTold.Laws as K′
-use Rattle.boundary.proofs.Moved as N
-use Rattle.boundary.proofs.Moved.Laws as N′
+use Rattle.agent_request.specs.declared.Request.{Request}
+use Rattle.agent_request.proofs.Request as T
+use Rattle.agent_request.proofs.Request.Laws as T′
+use Rattle.agent_rules.specs.declared.Taken.{Taken}
+use Rattle.agent_c_rules.specs.Boundary.{toldOf, movedOf}
+use Rattle.agent_c_rules.specs.declared.Moved.{Moved}
+use Rattle.agent_c_rules.proofs.CTold as K
+use Rattle.agent_c_rules.proofs.CTold.Laws as K′
+use Rattle.agent_c_rules.proofs.Moved as N
+use Rattle.agent_c_rules.proofs.Moved.Laws as N′
 -- of these two, the types of the parameters and the result alone, which are those of the other two functions as well
 use Rattle.agent_c.proofs.step_moved as g
 use Rattle.agent_c.proofs.brancove_step_takes as f

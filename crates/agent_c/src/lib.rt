@@ -1,18 +1,19 @@
 // The agent for a caller in C. An exported function only loads the request, calls a function by value, stores and returns; the cases
-// stand in the functions by value. It relies on the contracts of `sends`, `takes`, `numbers`, `request`, `table` and `word` alone.
+// stand in the functions by value. It relies on the contracts of `agent_sends`,
+// `agent_takes`, `agent_numbers`, `agent_request` and `word_layout` alone.
 ghost use mathlib.Core.Path.{_≡_};
-ghost use Rattle.word.specs.Word.{splitOf};
-ghost use Rattle.life.specs.Life.{stepSends, releaseSends, stepTakes, releaseTakes};
-ghost use Rattle.boundary.specs.Boundary.{verbOf, toldOf, movedOf, askedOf};
-use boundary::Asked;
-use boundary::CTold;
-use boundary::CVerb;
-use boundary::Moved;
-use life::Answer;
-use life::Taken;
-use life::Verb;
-use request::Request;
-use word::Counters;
+ghost use Rattle.word_layout.specs.Word.{splitOf};
+ghost use Rattle.agent_rules.specs.Life.{stepSends, releaseSends, stepTakes, releaseTakes};
+ghost use Rattle.agent_c_rules.specs.Boundary.{verbOf, toldOf, movedOf, askedOf};
+use agent_c_rules::Asked;
+use agent_c_rules::CTold;
+use agent_c_rules::CVerb;
+use agent_c_rules::Moved;
+use agent_request::Request;
+use agent_rules::Answer;
+use agent_rules::Taken;
+use agent_rules::Verb;
+use word_layout::Counters;
 
 // A verb in numbers.
 fn verb_of(v: Verb) -> CVerb
@@ -46,7 +47,7 @@ fn verb_of(v: Verb) -> CVerb
 fn told_of(a: Answer) -> CTold
     ensures { λ r. ⌜ r ≡ toldOf a ⌝ }
 {
-    let n = numbers::numbers_of(a);
+    let n = agent_numbers::numbers_of(a);
     CTold {
         number: n.number,
         outcome: n.outcome,
@@ -58,14 +59,14 @@ fn told_of(a: Answer) -> CTold
 fn step_sent(q: Request) -> CVerb
     ensures { λ r. ⌜ r ≡ verbOf (stepSends q) ⌝ }
 {
-    verb_of(sends::step_sends(q))
+    verb_of(agent_sends::step_sends(q))
 }
 
 // What a release sends, in numbers.
 fn release_sent(q: Request) -> CVerb
     ensures { λ r. ⌜ r ≡ verbOf (releaseSends q) ⌝ }
 {
-    verb_of(sends::release_sends(q))
+    verb_of(agent_sends::release_sends(q))
 }
 
 // What the agent made of a request, with the answer in numbers.
@@ -84,14 +85,14 @@ fn moved_of(t: Taken) -> Moved
 fn step_moved(q: Request, v: u64) -> Moved
     ensures { λ r. ⌜ r ≡ movedOf (stepTakes q v) ⌝ }
 {
-    moved_of(takes::step_takes(q, v))
+    moved_of(agent_takes::step_takes(q, v))
 }
 
 // What the result of a release's verb makes of the request.
 fn release_moved(q: Request, v: u64) -> Moved
     ensures { λ r. ⌜ r ≡ movedOf (releaseTakes q v) ⌝ }
 {
-    moved_of(takes::release_takes(q, v))
+    moved_of(agent_takes::release_takes(q, v))
 }
 
 // A mode that is neither 0 nor 1 is refused first, then a request in use.
@@ -104,14 +105,14 @@ fn asked_of(q: Request, record: u16, mode: u8) -> Asked
             number: 3,
         };
     }
-    if table::in_use(q) {
+    if agent_request::in_use(q) {
         return Asked {
             request: q,
             number: 5,
         };
     }
     Asked {
-        request: request::opened(record, mode),
+        request: agent_request::opened(record, mode),
         number: 0,
     }
 }
@@ -172,5 +173,5 @@ pub extern "C" fn brancove_release_takes(q: &mut Request, result: u64) -> CTold
 pub extern "C" fn brancove_split(word: u64) -> Counters
     ensures { λ r. ⌜ r ≡ splitOf word ⌝ }
 {
-    word::split(word)
+    word_layout::split(word)
 }

@@ -3,11 +3,11 @@
 use Prim.Native.Nat.{ℕ}
 use mathlib.Core.Path.{_≡_, _∙_, ap}
 use mathlib.Core.List.{List}
-use Rattle.slots.specs.Slots.{freshSlots}
-use Rattle.slots.specs.declared.Board.{Board}
-use Rattle.rules.specs.Board.{begun}
-use Rattle.rules.specs.Leaves.{lentTo}
-use Rattle.play.specs.Comes.{wholeOf}
+use Rattle.board_slots.specs.Slots.{freshSlots}
+use Rattle.board_slots.specs.declared.Board.{Board}
+use Rattle.board_rules.specs.Board.{begun}
+use Rattle.board_rules.specs.Leaves.{lentTo}
+use Rattle.run_play.specs.Comes.{wholeOf}
 use Rattle.bench_run.specs.Bench.{started}
 
 pub same-run :

@@ -2,10 +2,10 @@
 use Prim.Native.Nat.{ℕ}
 use mathlib.Core.Path.{_≡_}
 use mathlib.Core.List.{List}
-use Rattle.slots.specs.Slots.{freshSlots}
-use Rattle.rules.specs.Board.{Done, begun}
-use Rattle.runs.specs.Run.{Whole, reportOf}
-use Rattle.play.specs.Comes.{wholeOf}
+use Rattle.board_slots.specs.Slots.{freshSlots}
+use Rattle.board_rules.specs.Board.{Done, begun}
+use Rattle.run_rules.specs.Run.{Whole, reportOf}
+use Rattle.run_play.specs.Comes.{wholeOf}
 
 -- More records than any report has room for: 2 to the power of 40.
 abbrev pub ENOUGH : ℕ

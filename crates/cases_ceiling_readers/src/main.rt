@@ -1,4 +1,4 @@
 // The ceiling of readers: what it prints is compared with what an independent implementation computes.
 fn main() {
-    drive::ceiling(0);
+    cases_ceiling::ceiling(0);
 }

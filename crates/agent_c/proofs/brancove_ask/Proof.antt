@@ -41,13 +41,13 @@ use denote.Triple.Spec.{Meets, tripleOf}
 use denote.Triple.Table.{entered, cited}
 use denote.Triple.Walked.{says, Stays, stay-ref, stay-none, walkOf, AllGo, goes-none, goes-ref, Walks, ends-at, walked, walk-meets}
 use denote.Exit.{yes}
-use Rattle.request.specs.declared.Request.{Request}
-use Rattle.request.proofs.Request as T
-use Rattle.request.proofs.Request.Laws as T′
-use Rattle.boundary.specs.Boundary.{askedOf}
-use Rattle.boundary.specs.declared.Asked.{Asked}
-use Rattle.boundary.proofs.Asked as N
-use Rattle.boundary.proofs.Asked.Laws as N′
+use Rattle.agent_request.specs.declared.Request.{Request}
+use Rattle.agent_request.proofs.Request as T
+use Rattle.agent_request.proofs.Request.Laws as T′
+use Rattle.agent_c_rules.specs.Boundary.{askedOf}
+use Rattle.agent_c_rules.specs.declared.Asked.{Asked}
+use Rattle.agent_c_rules.proofs.Asked as N
+use Rattle.agent_c_rules.proofs.Asked.Laws as N′
 use Rattle.agent_c.proofs.asked_of as g
 use Rattle.agent_c.proofs.asked_of.Symbol as g-def
 use Rattle.agent_c.proofs.asked_of.Symbol.{name as #agent-c·asked-of}

@@ -3,7 +3,7 @@
 use contract.Running.{givenOf, tables, tablesOf}
 use denote.Triple.Spec.{tripleOf}
 use denote.Triple.Table.{entered, cited}
-use Rattle.life.specs.Life.{releaseSends}
+use Rattle.agent_rules.specs.Life.{releaseSends}
 use Rattle.agent_c.proofs.Sends.{Called, meets}
 use Rattle.agent_c.proofs.release_sent.Symbol as callee
 use Rattle.agent_c.proofs.release_sent.Symbol.{name as #agent-c·release-sent}

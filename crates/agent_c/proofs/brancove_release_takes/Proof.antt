@@ -3,7 +3,7 @@
 use contract.Running.{givenOf, tables, tablesOf}
 use denote.Triple.Spec.{tripleOf}
 use denote.Triple.Table.{entered, cited}
-use Rattle.life.specs.Life.{releaseTakes}
+use Rattle.agent_rules.specs.Life.{releaseTakes}
 use Rattle.agent_c.proofs.Takes.{Called, meets}
 use Rattle.agent_c.proofs.release_moved.Symbol as callee
 use Rattle.agent_c.proofs.release_moved.Symbol.{name as #agent-c·release-moved}

@@ -3,7 +3,7 @@
 use contract.Running.{givenOf, tables, tablesOf}
 use denote.Triple.Spec.{tripleOf}
 use denote.Triple.Table.{entered, cited}
-use Rattle.life.specs.Life.{stepSends}
+use Rattle.agent_rules.specs.Life.{stepSends}
 use Rattle.agent_c.proofs.Sends.{Called, meets}
 use Rattle.agent_c.proofs.step_sent.Symbol as callee
 use Rattle.agent_c.proofs.step_sent.Symbol.{name as #agent-c·step-sent}

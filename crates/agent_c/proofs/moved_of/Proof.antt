@@ -2,7 +2,7 @@
 -- Assumes nothing.
 use mathlib.Core.Path.{ap}
 use borrow.Author.Needs.{needs}
-use Rattle.boundary.specs.declared.CTold.{CTold}
+use Rattle.agent_c_rules.specs.declared.CTold.{CTold}
 use Rattle.agent_c.proofs.moved_of.Statement.{statement}
 use Rattle.agent_c.proofs.moved_of.Tie as tie
 

@@ -2,7 +2,7 @@
 -- Assumes nothing.
 use mathlib.Core.Path.{_∙_, ap}
 use borrow.Author.Needs.{needs}
-use Rattle.boundary.specs.Boundary.{movedOf}
+use Rattle.agent_c_rules.specs.Boundary.{movedOf}
 use Rattle.agent_c.proofs.release_moved.Statement.{statement}
 use Rattle.agent_c.proofs.release_moved.Tie as tie
 

@@ -2,8 +2,8 @@
 -- Assumes nothing.
 use mathlib.Core.Path.{ap}
 use borrow.Author.Needs.{needs}
-use Rattle.life.specs.declared.Numbers.{Numbers}
-use Rattle.boundary.specs.declared.CTold.{CTold}
+use Rattle.agent_rules.specs.declared.Numbers.{Numbers}
+use Rattle.agent_c_rules.specs.declared.CTold.{CTold}
 use Rattle.agent_c.proofs.told_of.Statement.{statement}
 use Rattle.agent_c.proofs.told_of.Tie as tie
 

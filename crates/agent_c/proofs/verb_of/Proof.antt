@@ -2,7 +2,7 @@
 -- Assumes nothing.
 use mathlib.Core.Path.{sym, ap}
 use borrow.Author.Needs.{needs}
-use Rattle.boundary.specs.Boundary.{verbOf}
+use Rattle.agent_c_rules.specs.Boundary.{verbOf}
 use Rattle.agent_c.proofs.verb_of.Statement.{statement}
 use Rattle.agent_c.proofs.verb_of.Tie as tie
 

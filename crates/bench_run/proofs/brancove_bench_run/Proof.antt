@@ -3,7 +3,7 @@
 use mathlib.Core.Path.{_∙_, ap}
 use denote.Ref.{now}
 use borrow.Author.Needs.{needs}
-use Rattle.runs.specs.Run.{Whole, reportOf}
+use Rattle.run_rules.specs.Run.{Whole, reportOf}
 use Rattle.bench_run.specs.Bench.{ENOUGH}
 use Rattle.bench_run.proofs.Started.{same-run}
 use Rattle.bench_run.proofs.brancove_bench_run.Statement.{statement}

@@ -1,0 +1,27 @@
+-- The document's number, outcome and value of every answer of the agent.
+use Prim.Native.Nat.{ℕ}
+use Rattle.agent_rules.specs.declared.Numbers.{Numbers}
+use Rattle.agent_rules.specs.declared.Answer.{Answer}
+use Rattle.agent_rules.specs.declared.Answer.the-variants.{WrongPhase, Granted, Waiting, Full, Withdrawn, Released, ClearingDue, Cleared, NotYetClear, Passed}
+
+-- Accepted is number 0, with an outcome and, for waiting, the number ahead.
+abbrev pub accepted : ℕ → ℕ → Numbers
+accepted o v = record { number = 0; outcome = o; value = v }
+
+-- A refusal has its number, and outcome 0.
+abbrev pub refused : ℕ → Numbers
+refused n = record { number = n; outcome = 0; value = 0 }
+
+-- Refusals: 5 wrong phase. Outcomes: 2 granted, 3 waiting, 4 full, 5 withdrawn, 6 released, 7 clearing due, 8 cleared,
+-- 9 not yet clear, 11 passed.
+abbrev pub numbersOf : Answer → Numbers
+numbersOf WrongPhase = refused 5
+numbersOf Granted = accepted 2 0
+numbersOf (Waiting ahead) = accepted 3 ahead
+numbersOf Full = accepted 4 0
+numbersOf Withdrawn = accepted 5 0
+numbersOf Released = accepted 6 0
+numbersOf ClearingDue = accepted 7 0
+numbersOf Cleared = accepted 8 0
+numbersOf NotYetClear = accepted 9 0
+numbersOf Passed = accepted 11 0

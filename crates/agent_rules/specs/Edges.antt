@@ -1,0 +1,92 @@
+-- Single steps and releases on the edges of the rules that P1 to P12 do not reach, with the whole request before and after.
+use Prim.Native.Nat.{ℕ}
+use mathlib.Core.Path.{_≡_}
+use mathlib.Core.List.{List, [], _∷_, map}
+use Rattle.word_layout.specs.Word.{splitOf, joinOf}
+use Rattle.word_layout.specs.declared.Counters.{Counters}
+use Rattle.agent_request.specs.Request.{NONE, freeRequest}
+use Rattle.agent_request.specs.declared.Request.{Request}
+use Rattle.agent_request.specs.declared.Phase.the-variants.{Asking, Waiting, Held, Owing, Clearing}
+use Rattle.agent_rules.specs.Life.{leftBy, stepSends, releaseSends, stepTakes, releaseTakes}
+use Rattle.agent_rules.specs.Answers.{numbersOf, accepted, refused}
+use Rattle.agent_rules.specs.Examples.{word, ticket, reader, writer, requestIn}
+use Rattle.agent_rules.specs.declared.Numbers.{Numbers}
+use Rattle.agent_rules.specs.declared.Taken.{Taken}
+use Rattle.agent_rules.specs.declared.Verb.{Verb}
+
+-- What is done with a request.
+pub data Move : Type 0 where
+  step : Move
+  release : Move
+
+-- One move: the request and the word before it, and both after it with what is told.
+pub record Edge : Type 0 where
+  pub does : Move
+  pub before : Request
+  pub finds : Counters
+  pub after : Request
+  pub leaves : Counters
+  pub told : Numbers
+
+abbrev edge : Move → Request → Counters → Request → Counters → Numbers → Edge
+edge m q f r l n = record { does = m; before = q; finds = f; after = r; leaves = l; told = n }
+
+-- A kept mode above 1, and a kept phase above 5.
+abbrev seven : ℕ
+seven = 7
+
+abbrev inNoPhase : Request
+inNoPhase = record { «record» = 3; mode = seven; phase = 77; ticket = ticket 5 6; clearing = 9 }
+
+abbrev pub edges : List Edge
+edges =
+    -- a reader and a writer let go
+    edge release (requestIn Held reader (ticket 0 0) NONE) (word 0 0 0 1) freeRequest (word 0 1 0 1) (accepted 6 0) ∷
+    edge release (requestIn Held writer (ticket 0 0) NONE) (word 0 0 1 0) freeRequest (word 1 0 1 0) (accepted 6 0) ∷
+    -- with a clearing word the slot is kept
+    edge release (requestIn Held reader (ticket 0 32767) 9) (word 0 32767 0 32768) (requestIn Clearing reader (ticket 0 32767) 9) (word 0 32768 0 32768) (accepted 7 0) ∷
+    -- the last ticket of the own kind brings a clearing word, the last of the other kind none
+    edge step (requestIn Asking writer (ticket 0 0) NONE) (word 32767 3 32767 3) (requestIn Held writer (ticket 32767 3) (joinOf (word 32768 3 32768 3))) (word 32767 3 32768 3) (accepted 2 0) ∷
+    edge step (requestIn Asking reader (ticket 0 0) NONE) (word 32767 3 32767 3) (requestIn Held reader (ticket 32767 3) NONE) (word 32767 3 32767 4) (accepted 2 0) ∷
+    -- an ask on a word that no protocol left: passed, and the word keeps the 1
+    edge step (requestIn Asking reader (ticket 0 0) NONE) (word 1 0 0 0) freeRequest (word 1 0 0 1) (accepted 11 0) ∷
+    -- full changes the phase alone, whatever the request brought; 65,535 runs into the next counter
+    edge step (requestIn Asking reader (ticket 5 6) 9) (word 0 0 0 65535) (requestIn Owing reader (ticket 5 6) 9) (word 0 0 1 0) (accepted 4 0) ∷
+    -- a ticket drops a clearing word that the request brought
+    edge step (requestIn Asking reader (ticket 5 6) 9) (word 0 0 0 0) (requestIn Held reader (ticket 0 0) NONE) (word 0 0 0 1) (accepted 2 0) ∷
+    -- a mode above 1 is a writer's and stays as it is
+    edge step (requestIn Asking seven (ticket 0 0) NONE) (word 0 0 0 1) (requestIn Waiting seven (ticket 0 1) NONE) (word 0 0 1 1) (accepted 3 1) ∷
+    edge step (requestIn Owing seven (ticket 5 6) 9) (word 0 0 1 0) freeRequest (word 0 0 0 0) (accepted 5 0) ∷
+    -- clearing without a clearing word swaps 0 for 0
+    edge step (requestIn Clearing reader (ticket 0 0) NONE) (word 0 0 0 0) freeRequest (word 0 0 0 0) (accepted 8 0) ∷
+    edge step (requestIn Clearing reader (ticket 0 0) NONE) (word 0 0 0 5) (requestIn Clearing reader (ticket 0 0) NONE) (word 0 0 0 5) (accepted 9 0) ∷
+    -- refusals: a step on Held, a release on another phase, and either on a phase that is none
+    edge step (requestIn Held reader (ticket 0 0) NONE) (word 0 0 0 1) (requestIn Held reader (ticket 0 0) NONE) (word 0 0 0 1) (refused 5) ∷
+    edge release (requestIn Waiting reader (ticket 1 0) NONE) (word 0 0 1 1) (requestIn Waiting reader (ticket 1 0) NONE) (word 0 0 1 1) (refused 5) ∷
+    edge step inNoPhase (word 1 2 3 4) inNoPhase (word 1 2 3 4) (refused 5) ∷
+    edge release inNoPhase (word 1 2 3 4) inNoPhase (word 1 2 3 4) (refused 5) ∷
+    []
+
+abbrev sends : Move → Request → Verb
+sends step q = stepSends q
+sends release q = releaseSends q
+
+abbrev takes : Move → Request → ℕ → Taken
+takes step q v = stepTakes q v
+takes release q v = releaseTakes q v
+
+-- What is defined for a move.
+abbrev pub moved : Move → Request → Counters → Edge
+moved m q f =
+    record {
+      does = m;
+      before = q;
+      finds = f;
+      after = takes m q (joinOf f) .request;
+      leaves = splitOf (leftBy (sends m q) (joinOf f));
+      told = numbersOf (takes m q (joinOf f) .answer);
+    }
+
+-- The claim: every row is what is defined.
+abbrev pub EdgesHold : Type 0
+EdgesHold = map (λ (e : Edge). moved (e .does) (e .before) (e .finds)) edges ≡ edges

@@ -1,0 +1,76 @@
+// The answers of the board in the document's numbers, and whether a verb was sent. It relies on the contract of `agent_numbers` alone.
+ghost use mathlib.Core.Path.{_≡_};
+ghost use Rattle.board_rules.specs.Answers.{namedSlot, saidOf, verbsOf};
+use board_call::Call;
+use board_rules::Answer;
+use board_rules::Said;
+
+// The slot that a call names, as one byte; 0 where it names none.
+fn named_slot(c: Call) -> u8
+    ensures { λ r. ⌜ r ≡ namedSlot c ⌝ }
+{
+    match c {
+        Call::Open(_, _) => 0,
+        Call::Step(i) => (i % 256) as u8,
+        Call::Release(i) => (i % 256) as u8,
+        Call::Show(_) => 0,
+    }
+}
+
+// The document's numbers for the answer to a call.
+pub fn tell(c: Call, a: Answer) -> Said
+    ensures { λ r. ⌜ r ≡ saidOf c a ⌝ }
+{
+    let slot = named_slot(c);
+    match a {
+        Answer::Refused(number) => Said {
+            number,
+            outcome: 0,
+            slot,
+            value: 0,
+        },
+        Answer::Begun => Said {
+            number: 0,
+            outcome: 0,
+            slot,
+            value: 0,
+        },
+        Answer::Opened(opened) => Said {
+            number: 0,
+            outcome: 1,
+            slot: opened,
+            value: 0,
+        },
+        Answer::Told(told) => {
+            let n = agent_numbers::numbers_of(told);
+            Said {
+                number: n.number,
+                outcome: n.outcome,
+                slot,
+                value: n.value,
+            }
+        }
+        Answer::Shown(word) => Said {
+            number: 0,
+            outcome: 10,
+            slot,
+            value: word,
+        },
+    }
+}
+
+// One where an accepted step or release sent a verb, else 0.
+pub fn verbs_of(c: Call, a: Answer) -> usize
+    ensures { λ r. ⌜ r ≡ verbsOf c a ⌝ }
+{
+    let said = tell(c, a);
+    if said.number != 0 {
+        return 0;
+    }
+    match c {
+        Call::Open(_, _) => 0,
+        Call::Step(_) => 1,
+        Call::Release(_) => 1,
+        Call::Show(_) => 0,
+    }
+}

@@ -1,0 +1,74 @@
+-- `board_visit_waiting::still_ahead` meets its contract: its tests are those of `stillAhead`, in its order.
+-- Assumes nothing.
+use mathlib.Core.Path.{_∙_, sym}
+use denote.Ref.{now}
+use borrow.Author.Tests.{not-false}
+use Rattle.board_visit_waiting.specs.Waits.{stillAhead}
+use Rattle.board_rules.proofs.Sent.{record-lent}
+use borrow.Author.Needs.{needs}
+use Rattle.board_visit_waiting.proofs.still_ahead.Statement.{statement}
+use Rattle.board_visit_waiting.proofs.still_ahead.Tie as tie
+
+phase-of-requires : tie.Need-phase-of-requires
+phase-of-requires c κs = search needs
+
+is-waiting-requires : tie.Need-is-waiting-requires
+is-waiting-requires c κs = search needs
+
+returns : tie.Need-returns
+unfolding stillAhead
+returns c = simp (sym (c .before .before .phase-of .ensures), sym (c .before .is-waiting .ensures), c .if1 .taken)
+
+cast-is-record : tie.Need-cast-is-record
+cast-is-record c = search needs
+
+is-record-requires : tie.Need-is-record-requires
+is-record-requires c κs = search needs
+
+returns-2 : tie.Need-returns-2
+unfolding stillAhead
+returns-2 c = simp (sym (c .before .before .before .before .before .phase-of .ensures), sym (c .before .before .before .before .is-waiting .ensures), c .before .before .before .if1 .left, sym (c .before .is-record .ensures), c .if2 .taken)
+
+cast-r : tie.Need-cast-r
+cast-r c = search needs
+
+mul-v : tie.Need-mul-v
+mul-v c = search needs
+
+shared-slice-read-v : tie.Need-shared-slice-read-v
+shared-slice-read-v c = record-lent _ (now (c .before .before .before .before .before .before .before .before .before .args .words)) (sym (c .before .before .before .is-record .ensures) ∙ not-false _ (c .before .before .if2 .left))
+
+mode-of-requires : tie.Need-mode-of-requires
+mode-of-requires c κs = search needs
+
+split-requires : tie.Need-split-requires
+split-requires c κs = search needs
+
+turn-of-requires : tie.Need-turn-of-requires
+turn-of-requires c κs = search needs
+
+number-ahead-requires : tie.Need-number-ahead-requires
+number-ahead-requires c κs = search needs
+
+returns-3 : tie.Need-returns-3
+unfolding stillAhead
+returns-3 c = simp (sym (c .before .before .before .before .before .before .before .before .before .before .before .phase-of .ensures), sym (c .before .before .before .before .before .before .before .before .before .before .is-waiting .ensures), c .before .before .before .before .before .before .before .before .before .if1 .left, sym (c .before .before .before .before .before .before .before .is-record .ensures), c .before .before .before .before .before .before .if2 .left, c .number-ahead .ensures, c .before .turn-of .ensures, c .before .before .split .ensures, c .before .before .before .mode-of .ensures)
+
+pub still-ahead-spec : {M : Type 1} → statement M
+still-ahead-spec =
+    tie.close
+    (tie.spec
+    phase-of-requires
+    is-waiting-requires
+    returns
+    cast-is-record
+    is-record-requires
+    returns-2
+    cast-r
+    mul-v
+    shared-slice-read-v
+    mode-of-requires
+    split-requires
+    turn-of-requires
+    number-ahead-requires
+    returns-3)

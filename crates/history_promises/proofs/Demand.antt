@@ -1,0 +1,325 @@
+-- Demand 3 of every board that is tied to its ledger, and so after every sequence of calls.
+-- Assumes nothing.
+use Prim.Native.Nat.{ℕ, _<_, _≤_}
+use mathlib.Core.Path.{_≡_, refl, ap, sym, subst, _∙_}
+use mathlib.Core.Bool.{Bool, true, false, not}
+use mathlib.Core.Logic.{_↔_, _⊎_, inl, inr, ⊎-elim}
+use mathlib.Core.List.{List, [], _∷_, _++_}
+use native.Mathlib.Nat.{eq-or-lt-of-le}
+use native.Mathlib.Omega.{arith}
+use borrow.Author.Tests.{leb-true, leb-false, ltb-true, ltb-false, eqb-true, eq-eqb}
+use lib.Dec.{eqb, leb, ltb}
+use lib.ListN.{length, take}
+use lib.Seq.{take-append-seam, take-length}
+use Rattle.common.specs.Choice.{if_then_else_}
+use Rattle.agent_ticket.specs.declared.Mode.{Mode}
+use Rattle.agent_ticket.specs.declared.Mode.the-variants.{Reader, Writer}
+use Rattle.agent_rules.specs.declared.Answer.{Answer as Tells}
+use Rattle.agent_rules.specs.declared.Answer.the-variants as tells
+use Rattle.board_slots.specs.Slots.{SLOTS, lowestFree}
+use Rattle.board_call.specs.declared.Call.{Call}
+use Rattle.board_call.specs.declared.Call.the-variants.{Open, Step, Release, Show}
+use Rattle.board_rules.specs.Records.{isRecord}
+use Rattle.board_rules.specs.declared.Answer.{Answer}
+use Rattle.board_rules.specs.declared.Answer.the-variants.{Refused, Begun, Opened, Told, Shown}
+use Rattle.board_rules.specs.Board.{State, Done, opened, stepped, released, shown, played}
+use Rattle.history_promises.specs.Tickets.{Given, conflicts, ticketAt, sameKind, EarlierReleased, AllReleased}
+use Rattle.history_promises.specs.Ledger.{Stage, Ledger, mine}
+use Rattle.history_promises.specs.Ledger.Stage.{Nobody, Asks, Waits, Holds, Owes, Clears}
+use Rattle.history_promises.specs.Promises.{WriterHoldsAlone, DrawnIsGrantedExactly, WaitingIsGrantedExactly, NonePassed, FullExactly, NoneOwed, ClearedOnly, ClearedThen, CountersStaySmall, Demand, Demand3}
+use Rattle.history_promises.proofs.Counts.{clash, true-or-false, below-none, none-below}
+use Rattle.history_promises.proofs.Turns.{aheadNow, ahead-earlier, earlier-ahead}
+use Rattle.history_promises.proofs.Words.{topped, topped-or, or-topped, clearingFor, wordAtRest, at-rest, rests, counters-small}
+use Rattle.history_promises.proofs.Tied.{Facts, isNobody, isOwing, owesOn, Tied, few-owed, same-or-not}
+use Rattle.history_promises.proofs.Sent.{went, step-nobody, step-holds, step-owes, step-clears, step-waits, step-asks-full, step-asks-turn, release-nobody, release-asks, release-waits, release-owes, release-clears, release-holds}
+use Rattle.history_promises.proofs.Moves.{wordNow, clearing-last, facts-at, owes-here}
+use Rattle.history_promises.proofs.Kept.{either, keeps-at, lent-at, tied}
+
+-- an answer that one way gives, and the other does not
+picked : (x : Bool) (d e : Done) (a : Answer) → d .answer ≡ a → (e .answer ≡ a → ⊥) → ((if x then d else e) .answer ≡ a) ↔ (x ≡ true)
+picked true d e a p q = ((λ h. refl), (λ h. p))
+picked false d e a p q = ((λ h. absurd (q h)), (λ h. clash false h refl))
+
+-- which answer it is, as a test
+abbrev isTold : (Tells → Bool) → Answer → Bool
+isTold f (Told a) = f a
+isTold f (Refused n) = false
+isTold f Begun = false
+isTold f (Opened k) = false
+isTold f (Shown w) = false
+
+abbrev isPassed : Tells → Bool
+isPassed tells.Passed = true
+isPassed tells.WrongPhase = false
+isPassed tells.Granted = false
+isPassed (tells.Waiting n) = false
+isPassed tells.Full = false
+isPassed tells.Withdrawn = false
+isPassed tells.Released = false
+isPassed tells.ClearingDue = false
+isPassed tells.Cleared = false
+isPassed tells.NotYetClear = false
+
+abbrev isCleared : Tells → Bool
+isCleared tells.Cleared = true
+isCleared tells.WrongPhase = false
+isCleared tells.Granted = false
+isCleared (tells.Waiting n) = false
+isCleared tells.Full = false
+isCleared tells.Withdrawn = false
+isCleared tells.Released = false
+isCleared tells.ClearingDue = false
+isCleared tells.NotYetClear = false
+isCleared tells.Passed = false
+
+module _ {n : ℕ} {s : State} {L : Ledger} (T : Tied n s L) where
+  -- a slot at a stage is one of the 256
+  pub in-board : (i : ℕ) (g : Stage) → L .seats i .stage ≡ g → isNobody g ≡ false → i < SLOTS
+  in-board i g e f = ⊎-elim (λ h. clash (isNobody g) (sym (ap isNobody e) ∙ ap isNobody (T .beyond i (leb-true SLOTS i h))) f) (λ h. leb-false SLOTS i h) (true-or-false (leb SLOTS i))
+
+  pub lent-to : (i : ℕ) (g : Stage) → L .seats i .stage ≡ g → isNobody g ≡ false → L .seats i .about < n
+  lent-to i g e f = lent-at T i (in-board i g e f) g e f
+
+  pub facts-of : (i : ℕ) (g : Stage) → L .seats i .stage ≡ g → isNobody g ≡ false → Facts g (L .seats i) (mine L i) i
+  facts-of i g e f = facts-at T i (in-board i g e f) (lent-to i g e f) g e
+
+  writer-conflicts : (k : Mode) → conflicts Writer k ≡ true
+  writer-conflicts Reader = refl
+  writer-conflicts Writer = refl
+
+  conflicts-writer : (k : Mode) → conflicts k Writer ≡ true
+  conflicts-writer Reader = refl
+  conflicts-writer Writer = refl
+
+  alone : WriterHoldsAlone L
+  alone i j e w f a =
+      let x = facts-of i Holds e refl in
+      let y : Facts Holds (L .seats j) (mine L i) j = subst (λ (r : ℕ). Facts Holds (L .seats j) (L .tickets r) j) a (facts-of j Holds f refl) in
+      ⊎-elim
+      (λ h. clash (ticketAt (mine L i) (L .seats i .place) .released) (y .1 (L .seats i .place) (ltb-true _ _ h) (rw (x .0 .kind, w) (writer-conflicts (L .seats j .kind)))) (x .0 .open-now))
+      (λ h.
+      ⊎-elim
+      (λ q. sym (x .0 .slot) ∙ ap (λ (p : ℕ). ticketAt (mine L i) p .slot) q ∙ y .0 .slot)
+      (λ d.
+      clash (ticketAt (mine L i) (L .seats j .place) .released)
+      (x .1 (L .seats j .place) (less (L .seats i .place) (L .seats j .place) (ltb-false _ _ h) d) (rw w (conflicts-writer (ticketAt (mine L i) (L .seats j .place) .kind)))) (y .0 .open-now))
+      (same-or-not (L .seats i .place) (L .seats j .place)))
+      (true-or-false (ltb (L .seats i .place) (L .seats j .place)))
+    where
+      less : (p q : ℕ) → q ≤ p → (p ≡ q → ⊥) → q < p
+      less p q h d = ⊎-elim (λ e. absurd (d (sym e))) (λ l. l) (eq-or-lt-of-le h)
+
+  ahead-exactly : (k : Mode) (l : List Given) (p : ℕ) → p ≤ length l → (eqb (aheadNow k l p) 0 ≡ true) ↔ EarlierReleased l k p
+  ahead-exactly k l p h = ((λ e. ahead-earlier k l p h (eqb-true (aheadNow k l p) 0 e)), (λ r. eq-eqb (aheadNow k l p) 0 (earlier-ahead k l p r)))
+
+  no-waiting : (m : ℕ) → Told (tells.Waiting m) ≡ Told tells.Granted → ⊥
+  no-waiting m e = let z : _≡_ {A = ℕ} 0 1 = cc in absurd (omega arith)
+
+  waiting-granted : WaitingIsGrantedExactly L (λ c. played c s .answer)
+  waiting-granted i e =
+      let here = in-board i Waits e refl in
+      let lent = lent-to i Waits e refl in
+      let own = facts-of i Waits e refl in
+      let eq = ap (λ (d : Done). d .answer) (step-waits s i here (L .seats i) (mine L i) (omega (arith, T .words-long)) (omega (arith, T .most)) (T .agrees (L .seats i .about) lent) (keeps-at T i here Waits e) own) in
+      let x = ahead-exactly (L .seats i .kind) (mine L i) (L .seats i .place) (omega (arith, own .inside)) in
+      let p = picked (eqb (aheadNow (L .seats i .kind) (mine L i) (L .seats i .place)) 0) _ _ (Told tells.Granted) refl (no-waiting _) in
+      ((λ h. x .0 (p .0 (sym eq ∙ h))), (λ r. eq ∙ p .1 (x .1 r)))
+
+  -- a slot that asks, at the ceiling and below it
+  asks-full : (i : ℕ) → L .seats i .stage ≡ Asks → topped (mine L i) ≡ true → played (Step i) s .answer ≡ Told tells.Full
+  asks-full i e top =
+      let here = in-board i Asks e refl in
+      let lent = lent-to i Asks e refl in
+      ap (λ (d : Done). d .answer) (step-asks-full s i here (L .seats i) (mine L i) (omega (arith, T .words-long)) (omega (arith, T .most)) (T .agrees (L .seats i .about) lent) (keeps-at T i here Asks e) top)
+
+  abbrev longer : ℕ → List Given
+  longer i = mine L i ++ record { kind = L .seats i .kind; slot = i; released = false } ∷ []
+
+  asks-turn :
+      (i : ℕ) → L .seats i .stage ≡ Asks → topped (mine L i) ≡ false →
+      (played (Step i) s .answer ≡ Told tells.Full → ⊥) × ((played (Step i) s .answer ≡ Told tells.Granted) ↔ (eqb (aheadNow (L .seats i .kind) (longer i) (length (mine L i))) 0 ≡ true))
+  asks-turn i e low =
+      let here = in-board i Asks e refl in
+      let lent = lent-to i Asks e refl in
+      let eq = ap (λ (d : Done). d .answer) (step-asks-turn s i here (L .seats i) (mine L i) (omega (arith, T .words-long)) (omega (arith, T .most)) (T .agrees (L .seats i .about) lent) low (keeps-at T i here Asks e)) in
+      let x = eqb (aheadNow (L .seats i .kind) (longer i) (length (mine L i))) 0 in
+      let p = picked x _ _ (Told tells.Granted) refl (no-waiting _) in
+      ((λ h. not-full x _ _ _ _ _ (sym eq ∙ h)), ((λ h. p .0 (sym eq ∙ h)), (λ h. eq ∙ p .1 h)))
+    where
+      not-full : (x : Bool) (q q′ : _) (w w′ m : ℕ) → ((if x then went s i (L .seats i .about) q w tells.Granted else went s i (L .seats i .about) q′ w′ (tells.Waiting m)) .answer) ≡ Told tells.Full → ⊥
+      not-full true q q′ w w′ m h = let z : _≡_ {A = ℕ} 0 1 = cc in absurd (omega arith)
+      not-full false q q′ w w′ m h = let z : _≡_ {A = ℕ} 0 1 = cc in absurd (omega arith)
+
+  drawn-granted : DrawnIsGrantedExactly L (λ c. played c s .answer)
+  drawn-granted i e not-full = ⊎-elim (λ top. absurd (not-full (asks-full i e top))) exactly (true-or-false (topped (mine L i)))
+    where
+      exactly : topped (mine L i) ≡ false → (played (Step i) s .answer ≡ Told tells.Granted) ↔ EarlierReleased (mine L i) (L .seats i .kind) (length (mine L i))
+      exactly low =
+          let p = asks-turn i e low .1 in
+          let seam : take (length (mine L i)) (longer i) ≡ take (length (mine L i)) (mine L i) = take-append-seam (mine L i) _ ∙ sym (take-length (mine L i)) in
+          let same : aheadNow (L .seats i .kind) (longer i) (length (mine L i)) ≡ aheadNow (L .seats i .kind) (mine L i) (length (mine L i)) = rw seam refl in
+          let x = ahead-exactly (L .seats i .kind) (mine L i) (length (mine L i)) (omega arith) in
+          ((λ h. x .0 (rw same at (p .0 h))), (λ r. p .1 (rw same (x .1 r))))
+
+  full : FullExactly L (λ c. played c s .answer)
+  full i e =
+      let lent = lent-to i Asks e refl in
+      let a = T .agrees (L .seats i .about) lent in (
+        (λ h. ⊎-elim (λ top. ⊎-elim (λ w. inl (omega (arith, a .cap Writer))) (λ r. inr (omega (arith, a .cap Reader))) (topped-or (mine L i) top)) (λ low. absurd (asks-turn i e low .0 h)) (true-or-false (topped (mine L i)))),
+        (λ h. asks-full i e (⊎-elim (λ w. or-topped (mine L i) Writer (omega arith)) (λ r. or-topped (mine L i) Reader (omega arith)) h)),
+      )
+
+  small : CountersStaySmall n s
+  small r k h = omega (arith, counters-small (T .agrees r h) (few-owed T r h) k)
+
+  -- what a step is never told, at a stage
+  module _ (f : Tells → Bool) (granted : f tells.Granted ≡ false) (waiting : (m : ℕ) → f (tells.Waiting m) ≡ false) (full-told : f tells.Full ≡ false) (withdrawn : f tells.Withdrawn ≡ false) where
+    abbrev Not : Done → Type 0
+    Not d = isTold f (d .answer) ≡ false
+
+    step-not : (i : ℕ) → i < SLOTS → (g : Stage) → L .seats i .stage ≡ g → (g ≡ Clears → Not (stepped i s)) → Not (stepped i s)
+    step-not i here Nobody e c = subst Not (sym (step-nobody s i here (keeps-at T i here Nobody e))) refl
+    step-not i here Holds e c = subst Not (sym (step-holds s i here (L .seats i) (mine L i) (keeps-at T i here Holds e))) refl
+    step-not i here Owes e c =
+        let lent = lent-to i Owes e refl in
+        subst Not (sym (step-owes s i here (L .seats i) (mine L i) (omega (arith, T .words-long)) (omega (arith, T .most)) (keeps-at T i here Owes e))) withdrawn
+    step-not i here Waits e c =
+        let lent = lent-to i Waits e refl in
+        subst Not (sym (step-waits s i here (L .seats i) (mine L i) (omega (arith, T .words-long)) (omega (arith, T .most)) (T .agrees (L .seats i .about) lent) (keeps-at T i here Waits e) (facts-of i Waits e refl)))
+        (either Not (eqb (aheadNow (L .seats i .kind) (mine L i) (L .seats i .place)) 0) (λ z. granted) (λ z. waiting _))
+    step-not i here Asks e c =
+        let lent = lent-to i Asks e refl in
+        let inside : L .seats i .about < length (s .words) = omega (arith, T .words-long) in
+        let few : L .seats i .about < 4096 = omega (arith, T .most) in
+        let a = T .agrees (L .seats i .about) lent in
+        ⊎-elim
+        (λ top. subst Not (sym (step-asks-full s i here (L .seats i) (mine L i) inside few a (keeps-at T i here Asks e) top)) full-told)
+        (λ low. subst Not (sym (step-asks-turn s i here (L .seats i) (mine L i) inside few a low (keeps-at T i here Asks e))) (either Not (eqb (aheadNow (L .seats i .kind) (longer i) (length (mine L i))) 0) (λ z. granted) (λ z. waiting _)))
+        (true-or-false (topped (mine L i)))
+    step-not i here Clears e c = c refl
+
+    step-never : (i : ℕ) → ((h : i < SLOTS) → L .seats i .stage ≡ Clears → Not (stepped i s)) → Not (stepped i s)
+    unfolding stepped
+    step-never i c = by (leb SLOTS i) refl
+      where
+        by : (x : Bool) → leb SLOTS i ≡ x → Not (stepped i s)
+        by true e = rw e refl
+        by false e = let here = leb-false SLOTS i e in step-not i here (L .seats i .stage) refl (λ q. c here q)
+
+  -- a step of a slot that clears
+  clears-told : (i : ℕ) → L .seats i .stage ≡ Clears → stepped i s .answer ≡ (if eqb (wordNow s L i) (wordAtRest (mine L i)) then Told tells.Cleared else Told tells.NotYetClear)
+  clears-told i e =
+      let here = in-board i Clears e refl in
+      let lent = lent-to i Clears e refl in
+      let closing = facts-of i Clears e refl in
+      let rest = clearing-last (mine L i) (L .seats i .place) (closing .final) (closing .top) in
+      ap (λ (d : Done). d .answer) (step-clears s i here (L .seats i) (mine L i) (omega (arith, T .words-long)) (omega (arith, T .most)) (keeps-at T i here Clears e) rest) ∙
+      by (eqb (wordNow s L i) (wordAtRest (mine L i))) _ _
+    where
+      by : (x : Bool) (d d′ : Done) → ((if x then d else d′) .answer) ≡ (if x then d .answer else d′ .answer)
+      by true d d′ = refl
+      by false d d′ = refl
+
+  -- none is told that it has passed
+  release-never : (i : ℕ) → isTold isPassed (released i s .answer) ≡ false
+  unfolding released
+  release-never i = by (leb SLOTS i) refl
+    where
+      at : (h : i < SLOTS) (g : Stage) → L .seats i .stage ≡ g → isTold isPassed (released i s .answer) ≡ false
+      at h Nobody e = subst (λ (d : Done). isTold isPassed (d .answer) ≡ false) (sym (release-nobody s i h (keeps-at T i h Nobody e))) refl
+      at h Asks e = subst (λ (d : Done). isTold isPassed (d .answer) ≡ false) (sym (release-asks s i h (L .seats i) (mine L i) (keeps-at T i h Asks e))) refl
+      at h Waits e = subst (λ (d : Done). isTold isPassed (d .answer) ≡ false) (sym (release-waits s i h (L .seats i) (mine L i) (keeps-at T i h Waits e))) refl
+      at h Owes e = subst (λ (d : Done). isTold isPassed (d .answer) ≡ false) (sym (release-owes s i h (L .seats i) (mine L i) (keeps-at T i h Owes e))) refl
+      at h Clears e = subst (λ (d : Done). isTold isPassed (d .answer) ≡ false) (sym (release-clears s i h (L .seats i) (mine L i) (keeps-at T i h Clears e))) refl
+      at h Holds e =
+          let lent = lent-to i Holds e refl in
+          subst (λ (d : Done). isTold isPassed (d .answer) ≡ false) (sym (release-holds s i h (L .seats i) (mine L i) (omega (arith, T .words-long)) (omega (arith, T .most)) (keeps-at T i h Holds e)))
+          (either (λ (d : Done). isTold isPassed (d .answer) ≡ false) (eqb (clearingFor (mine L i) (L .seats i .place)) 0) (λ z. refl) (λ z. refl))
+
+      by : (x : Bool) → leb SLOTS i ≡ x → isTold isPassed (released i s .answer) ≡ false
+      by true e = rw e refl
+      by false e = at (leb-false SLOTS i e) (L .seats i .stage) refl
+
+  never-passed : (c : Call) → isTold isPassed (played c s .answer) ≡ false
+  unfolding opened shown
+  never-passed (Open r m) =
+      either P (not (isRecord r (s .words))) (λ e. refl)
+      (λ e. either P (ltb 1 m) (λ f. refl) (λ f. either P (leb SLOTS (lowestFree (s .slots))) (λ g. refl) (λ g. refl)))
+    where
+      P : Done → Type 0
+      P d = isTold isPassed (d .answer) ≡ false
+  never-passed (Step i) = step-never isPassed refl (λ m. refl) refl refl i (λ h e. ap (isTold isPassed) (clears-told i e) ∙ either (λ (a : Answer). isTold isPassed a ≡ false) (eqb (wordNow s L i) (wordAtRest (mine L i))) (λ z. refl) (λ z. refl))
+  never-passed (Release i) = release-never i
+  never-passed (Show r) = either (λ (d : Done). isTold isPassed (d .answer) ≡ false) (isRecord r (s .words)) (λ e. refl) (λ e. refl)
+
+  none-passed : NonePassed (λ c. played c s .answer)
+  none-passed c e = clash (isTold isPassed (played c s .answer)) (ap (isTold isPassed) e) (never-passed c)
+
+  -- cleared only where all are released and nothing is owed, and then always
+  owing-here : (j : ℕ) → L .seats j .stage ≡ Owes → (r : ℕ) → L .seats j .about ≡ r → owesOn r (L .seats j .kind) (L .seats j) ≡ true
+  owing-here j e r a = subst (λ (x : ℕ). owesOn x (L .seats j .kind) (L .seats j) ≡ true) a (owes-here (L .seats j .kind) (L .seats j) (ap isOwing e) ∙ self (L .seats j .kind))
+    where
+      self : (k : Mode) → sameKind k k ≡ true
+      self Reader = refl
+      self Writer = refl
+
+  cleared-only : ClearedOnly L (λ c. played c s .answer)
+  cleared-only i told = ⊎-elim at (λ d. clash (isTold isCleared (stepped i s .answer)) (ap (isTold isCleared) told) (step-never isCleared refl (λ m. refl) refl refl i (λ h e. absurd (d e)))) (clears-or-not (L .seats i .stage))
+    where
+      clears-or-not : (g : Stage) → (g ≡ Clears) ⊎ (g ≡ Clears → ⊥)
+      clears-or-not Clears = inl refl
+      clears-or-not Nobody = inr (λ e. let z : _≡_ {A = ℕ} 0 1 = cc in absurd (omega arith))
+      clears-or-not Asks = inr (λ e. let z : _≡_ {A = ℕ} 0 1 = cc in absurd (omega arith))
+      clears-or-not Waits = inr (λ e. let z : _≡_ {A = ℕ} 0 1 = cc in absurd (omega arith))
+      clears-or-not Holds = inr (λ e. let z : _≡_ {A = ℕ} 0 1 = cc in absurd (omega arith))
+      clears-or-not Owes = inr (λ e. let z : _≡_ {A = ℕ} 0 1 = cc in absurd (omega arith))
+
+      rested : (x : Bool) → (if x then Told tells.Cleared else Told tells.NotYetClear) ≡ Told tells.Cleared → x ≡ true
+      rested true q = refl
+      rested false q = let z : _≡_ {A = ℕ} 0 1 = cc in absurd (omega arith)
+
+      at : L .seats i .stage ≡ Clears → (L .seats i .stage ≡ Clears) × AllReleased (mine L i) × NoneOwed L (L .seats i .about)
+      at e =
+          let lent = lent-to i Clears e refl in
+          let now = rested (eqb (wordNow s L i) (wordAtRest (mine L i))) (sym (clears-told i e) ∙ told) in
+          let r = at-rest (T .agrees (L .seats i .about) lent) (eqb-true (wordNow s L i) (wordAtRest (mine L i)) now) in (
+            e,
+            r .0,
+            λ j f a.
+                let nobody = below-none (λ x. owesOn (L .seats i .about) (L .seats j .kind) (L .seats x)) SLOTS (r .1 (L .seats j .kind)) j (in-board j Owes f refl) in
+                clash (owesOn (L .seats i .about) (L .seats j .kind) (L .seats j)) (owing-here j f (L .seats i .about) a) nobody,
+          )
+
+  cleared-then : ClearedThen L (λ c. played c s .answer)
+  cleared-then i e all none-owed =
+      let lent = lent-to i Clears e refl in
+      let w = rests (T .agrees (L .seats i .about) lent) all (λ k. none-below (λ x. owesOn (L .seats i .about) k (L .seats x)) SLOTS (λ j h. owes-not k j)) in
+      clears-told i e ∙ rw (eq-eqb (wordNow s L i) (wordAtRest (mine L i)) w) refl
+    where
+      owes-not : (k : Mode) (j : ℕ) → owesOn (L .seats i .about) k (L .seats j) ≡ false
+      owes-not k j = by (L .seats j .stage) refl (eqb (L .seats j .about) (L .seats i .about)) refl
+        where
+          by : (g : Stage) → L .seats j .stage ≡ g → (x : Bool) → eqb (L .seats j .about) (L .seats i .about) ≡ x → owesOn (L .seats i .about) k (L .seats j) ≡ false
+          by Nobody f x q = rw f refl
+          by Asks f x q = rw f refl
+          by Waits f x q = rw f refl
+          by Holds f x q = rw f refl
+          by Clears f x q = rw f refl
+          by Owes f true q = absurd (none-owed j f (eqb-true (L .seats j .about) (L .seats i .about) q))
+          by Owes f false q = rw (f, q) refl
+
+  pub demand : Demand n L s (λ c. played c s .answer)
+  demand =
+      record {
+        alone = alone;
+        drawn-granted = drawn-granted;
+        waiting-granted = waiting-granted;
+        none-passed = none-passed;
+        full = full;
+        cleared-only = cleared-only;
+        cleared-then = cleared-then;
+        small = small;
+      }
+
+pub demand-3 : Demand3
+demand-3 n some most ms = demand (tied n some most ms)

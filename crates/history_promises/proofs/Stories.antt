@@ -1,0 +1,27 @@
+-- The three histories, computed.
+-- Assumes nothing.
+use mathlib.Core.Path.{refl}
+use Rattle.agent_ticket.specs.Turn.{turnOf}
+use Rattle.agent_ceiling.specs.Ceiling.{clearingWordOf}
+use Rattle.agent_rules.specs.Life.{stepSends, releaseSends, stepTakes, releaseTakes, asked}
+use Rattle.board_slots.specs.Slots.{lowestFree}
+use Rattle.board_rules.specs.Records.{refusalOf}
+use Rattle.board_rules.specs.Board.{opened, sent, stepped, released}
+use Rattle.history_promises.specs.History.{events, readOff}
+use Rattle.history_promises.specs.Stories.{SlowReaderIsGranted, SlowReaderInTheLedger, WriterWaitsForReaders, ReaderStaysBehindWriter}
+
+pub slow-reader-is-granted : SlowReaderIsGranted
+unfolding events opened sent stepped released refusalOf lowestFree stepSends releaseSends stepTakes releaseTakes turnOf clearingWordOf asked
+slow-reader-is-granted = refl
+
+pub slow-reader-in-the-ledger : SlowReaderInTheLedger
+unfolding events readOff opened sent stepped released refusalOf lowestFree stepSends releaseSends stepTakes releaseTakes turnOf clearingWordOf asked
+slow-reader-in-the-ledger = (refl, refl)
+
+pub writer-waits-for-readers : WriterWaitsForReaders
+unfolding events opened sent stepped released refusalOf lowestFree stepSends releaseSends stepTakes releaseTakes turnOf clearingWordOf asked
+writer-waits-for-readers = refl
+
+pub reader-stays-behind-writer : ReaderStaysBehindWriter
+unfolding events opened sent stepped released refusalOf lowestFree stepSends releaseSends stepTakes releaseTakes turnOf clearingWordOf asked
+reader-stays-behind-writer = refl

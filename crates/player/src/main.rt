@@ -1,6 +1,0 @@
-// Plays the schedule on standard input and prints its lines.
-fn main() {
-    let mut input = [0u8; 65537];
-    let n = io::read_full(0, &mut input);
-    lines::play_lines(&input[..n]);
-}

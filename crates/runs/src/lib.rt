@@ -1,1 +1,0 @@
-// A run of a schedule, in definitions and laws alone. `play` computes it.

@@ -1,0 +1,30 @@
+-- `schedule_bytes::body` meets its contract: an arm with a number is `bodyOf` at that number; in `_` each test of `bodyOf` fails.
+-- Assumes nothing.
+use mathlib.Core.Path.{sym, ap}
+use borrow.Author.Tests.{ne-eqb}
+use Rattle.schedule_bytes.specs.Schedule.{bodyOf}
+use Rattle.schedule_bytes.proofs.body.Statement.{statement}
+use Rattle.schedule_bytes.proofs.body.Tie as tie
+
+returns : tie.Need-returns
+unfolding bodyOf
+returns c = sym (ap bodyOf (c .match .keys1))
+
+returns-2 : tie.Need-returns-2
+unfolding bodyOf
+returns-2 c = sym (ap bodyOf (c .match .keys2))
+
+returns-3 : tie.Need-returns-3
+unfolding bodyOf
+returns-3 c = sym (ap bodyOf (c .match .keys3))
+
+returns-4 : tie.Need-returns-4
+unfolding bodyOf
+returns-4 c = sym (ap bodyOf (c .match .keys4))
+
+returns-5 : tie.Need-returns-5
+unfolding bodyOf
+returns-5 c = simp (ne-eqb _ _ (c .match .rest .0 .0 .0 .1), ne-eqb _ _ (c .match .rest .0 .0 .1), ne-eqb _ _ (c .match .rest .0 .1), ne-eqb _ _ (c .match .rest .1))
+
+pub body-spec : {M : Type 1} → statement M
+body-spec = tie.close (tie.spec returns returns-2 returns-3 returns-4 returns-5)

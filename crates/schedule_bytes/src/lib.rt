@@ -1,0 +1,74 @@
+// Schedules in bytes. What stands at a place of a slice: a record with the next place, the end, an unknown kind, or a cut body.
+// It relies on nothing but the type of a call, and knows nothing of boards.
+ghost use mathlib.Core.Path.{_≡_};
+ghost use Prim.Native.Nat.{_+_, _*_, _≤_};
+ghost use lib.ListN.{length};
+ghost use Rattle.schedule_bytes.specs.Schedule.{bodyOf, callAt, nextOf};
+use board_call::Call;
+
+pub enum Next {
+    // the call, and the place after its record
+    Record(Call, usize),
+    End,
+    Unknown,
+    Cut,
+}
+
+// How long the body of a kind is; 0 for an unknown kind.
+pub fn body(kind: u8) -> usize
+    ensures { λ r. ⌜ r ≡ bodyOf kind ⌝ }
+{
+    match kind {
+        1 => 3,
+        2 => 1,
+        3 => 1,
+        4 => 2,
+        _ => 0,
+    }
+}
+
+fn wide(b: u8) -> u64
+    ensures { λ r. ⌜ r ≡ b ⌝ }
+{
+    b as u64
+}
+
+// Two bytes, low first.
+fn pair(low: u8, high: u8) -> u64
+    ensures { λ r. ⌜ r ≡ low + high * 256 ⌝ }
+{
+    low as u64 + high as u64 * 256
+}
+
+// The call of a kind whose body begins at a place and is all there.
+fn call_at(kind: u8, s: &[u8], i: usize) -> Call
+    requires { ⌜ i + bodyOf kind ≤ length (now s) ⌝ }
+    requires { ⌜ (bodyOf kind ≡ 0 → ⊥) ⌝ }
+    ensures { λ r. ⌜ r ≡ callAt kind (now (s .entry)) i ⌝ }
+{
+    match kind {
+        1 => Call::Open(pair(s[i], s[i + 1]), wide(s[i + 2])),
+        2 => Call::Step(wide(s[i])),
+        3 => Call::Release(wide(s[i])),
+        _ => Call::Show(pair(s[i], s[i + 1])),
+    }
+}
+
+// What stands at a place, for any bytes and any place.
+pub fn next_at(s: &[u8], at: usize) -> Next
+    ensures { λ r. ⌜ r ≡ nextOf (now (s .entry)) at ⌝ }
+{
+    if s.len() <= at {
+        return Next::End;
+    }
+    let kind = s[at];
+    let n = body(kind);
+    if n == 0 {
+        return Next::Unknown;
+    }
+    let i = at + 1;
+    if s.len() - i < n {
+        return Next::Cut;
+    }
+    Next::Record(call_at(kind, s, i), i + n)
+}
