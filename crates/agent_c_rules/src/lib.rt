@@ -9,7 +9,7 @@ pub struct CVerb {
     pub second: u64,
 }
 
-// What is told: the document's number and outcome, and the number ahead where the outcome is 3.
+// What is told: number and outcome of rules 5.1 and 5.3, and the number ahead where the outcome is 3.
 #[repr(C)]
 pub struct CTold {
     pub number: u8,
@@ -23,7 +23,7 @@ pub struct Moved {
     pub told: CTold,
 }
 
-// What the request becomes when it is to ask, with the document's number.
+// What the request becomes when it is to ask, with the number of rule 5.1.
 pub struct Asked {
     pub request: Request,
     pub number: u8,

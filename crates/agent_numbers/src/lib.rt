@@ -1,4 +1,4 @@
-// The answers of the agent in the document's numbers. It relies on types alone.
+// The answers of the agent in numbers. It relies on types alone.
 ghost use mathlib.Core.Path.{_≡_};
 ghost use Rattle.agent_rules.specs.Answers.{accepted, refused, numbersOf};
 use agent_rules::Answer;
@@ -24,7 +24,7 @@ fn accepted(outcome: u8, value: u64) -> Numbers
     }
 }
 
-// The document's numbers for an answer.
+// The number, outcome and value of an answer.
 pub fn numbers_of(a: Answer) -> Numbers
     ensures { λ r. ⌜ r ≡ numbersOf a ⌝ }
 {

@@ -1,18 +1,19 @@
--- The document's number, outcome and value of every answer of the agent.
+-- The number, outcome and value of every answer of the agent.
 use Prim.Native.Nat.{ℕ}
 use Rattle.agent_rules.specs.declared.Numbers.{Numbers}
 use Rattle.agent_rules.specs.declared.Answer.{Answer}
-use Rattle.agent_rules.specs.declared.Answer.the-variants.{WrongPhase, Granted, Waiting, Full, Withdrawn, Released, ClearingDue, Cleared, NotYetClear, Passed}
+use Rattle.agent_rules.specs.declared.Answer.the-variants.{WrongPhase, Granted, Waiting, Full, Withdrawn, Released}
+use Rattle.agent_rules.specs.declared.Answer.the-variants.{ClearingDue, Cleared, NotYetClear, Passed}
 
--- Accepted is number 0, with an outcome and, for waiting, the number ahead.
+-- Rules 5.1 and 5.3: Accepted is number 0, with an outcome and, for waiting, the number ahead.
 abbrev pub accepted : ℕ → ℕ → Numbers
 accepted o v = record { number = 0; outcome = o; value = v }
 
--- A refusal has its number, and outcome 0.
+-- Rules 5.1 and 5.3: A refusal has its number, and outcome 0.
 abbrev pub refused : ℕ → Numbers
 refused n = record { number = n; outcome = 0; value = 0 }
 
--- Refusals: 5 wrong phase. Outcomes: 2 granted, 3 waiting, 4 full, 5 withdrawn, 6 released, 7 clearing due, 8 cleared,
+-- Rules 5.1 and 5.3: Refusals: 5 wrong phase. Outcomes: 2 granted, 3 waiting, 4 full, 5 withdrawn, 6 released, 7 clearing due, 8 cleared,
 -- 9 not yet clear, 11 passed.
 abbrev pub numbersOf : Answer → Numbers
 numbersOf WrongPhase = refused 5

@@ -44,10 +44,13 @@ edges =
     edge release (requestIn Held reader (ticket 0 0) NONE) (word 0 0 0 1) freeRequest (word 0 1 0 1) (accepted 6 0) ∷
     edge release (requestIn Held writer (ticket 0 0) NONE) (word 0 0 1 0) freeRequest (word 1 0 1 0) (accepted 6 0) ∷
     -- with a clearing word the slot is kept
-    edge release (requestIn Held reader (ticket 0 32767) 9) (word 0 32767 0 32768) (requestIn Clearing reader (ticket 0 32767) 9) (word 0 32768 0 32768) (accepted 7 0) ∷
+    edge release (requestIn Held reader (ticket 0 32767) 9) (word 0 32767 0 32768)
+    (requestIn Clearing reader (ticket 0 32767) 9) (word 0 32768 0 32768) (accepted 7 0) ∷
     -- the last ticket of the own kind brings a clearing word, the last of the other kind none
-    edge step (requestIn Asking writer (ticket 0 0) NONE) (word 32767 3 32767 3) (requestIn Held writer (ticket 32767 3) (joinOf (word 32768 3 32768 3))) (word 32767 3 32768 3) (accepted 2 0) ∷
-    edge step (requestIn Asking reader (ticket 0 0) NONE) (word 32767 3 32767 3) (requestIn Held reader (ticket 32767 3) NONE) (word 32767 3 32767 4) (accepted 2 0) ∷
+    edge step (requestIn Asking writer (ticket 0 0) NONE) (word 32767 3 32767 3)
+    (requestIn Held writer (ticket 32767 3) (joinOf (word 32768 3 32768 3))) (word 32767 3 32768 3) (accepted 2 0) ∷
+    edge step (requestIn Asking reader (ticket 0 0) NONE) (word 32767 3 32767 3)
+    (requestIn Held reader (ticket 32767 3) NONE) (word 32767 3 32767 4) (accepted 2 0) ∷
     -- an ask on a word that no protocol left: passed, and the word keeps the 1
     edge step (requestIn Asking reader (ticket 0 0) NONE) (word 1 0 0 0) freeRequest (word 1 0 0 1) (accepted 11 0) ∷
     -- full changes the phase alone, whatever the request brought; 65,535 runs into the next counter

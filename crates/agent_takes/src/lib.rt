@@ -1,6 +1,6 @@
-// What one request becomes when the result of its verb arrives, for any u64 as that result.
-// It relies on the contracts of `word_layout`, `agent_ticket`, `agent_ceiling` and `agent_request` alone. It sees a lock word only as a verb's result, and never
-// looks at the record number.
+// What one request becomes when the result of its verb arrives, for any u64 as that result. It relies on the contracts of `word_layout`,
+// `agent_ticket`, `agent_ceiling` and `agent_request` alone. It sees a lock word only as a verb's result, and never looks at the record
+// number.
 ghost use mathlib.Core.Path.{_≡_};
 ghost use Rattle.agent_rules.specs.Life.{becomes, freed, waited, ticketed, asked, swapped, letGo, stepTakes, releaseTakes};
 use agent_request::Phase;

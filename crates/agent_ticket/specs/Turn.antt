@@ -10,24 +10,24 @@ use Rattle.agent_ticket.specs.declared.Mode.the-variants.{Reader, Writer
 use Rattle.agent_ticket.specs.declared.Turn.{Turn}
 use Rattle.agent_ticket.specs.declared.Turn.the-variants.{Passed, Granted, Ahead}
 
--- Reader means shared, writer exclusive.
+-- Rule 2.2: Reader means shared, writer exclusive.
 abbrev pub isWriter : Mode → Bool
 isWriter Reader = false
 isWriter Writer = true
 
--- The number ahead of a ticket (x, s), at counters v: (x - v.nX) plus (s - v.nS), the second term 0 where it would be negative.
+-- Rule 3.7: The number ahead of a ticket (x, s), at counters v: (x - v.nX) plus (s - v.nS), the second term 0 where it would be negative.
 -- It is the same for readers and writers.
 abbrev pub aheadOf : Mode → Ticket → Counters → ℕ
 aheadOf m t v = beyondX (t .0) (v .nx) + beyondS (t .1) (v .ns)
 
--- passed, if v.nX > x, or a writer and v.nS > s;
+-- Rule 3.6: passed, if v.nX > x, or a writer and v.nS > s;
 abbrev pub passedAt : Mode → Ticket → Counters → Bool
 passedAt m t v = exceedsX (v .nx) (t .0) || (isWriter m && exceedsS (v .ns) (t .1))
 
--- granted, if v.nX = x and (a reader, or v.nS = s);
+-- Rule 3.6: granted, if v.nX = x and (a reader, or v.nS = s);
 abbrev pub grantedAt : Mode → Ticket → Counters → Bool
 grantedAt m t v = equalsX (v .nx) (t .0) && (not (isWriter m) || equalsS (v .ns) (t .1))
 
--- waiting, otherwise, with the number ahead.
+-- Rule 3.6: waiting, otherwise, with the number ahead.
 unfoldable pub turnOf : Mode → Ticket → Counters → Turn
 turnOf m t v = if passedAt m t v then Passed else if grantedAt m t v then Granted else Ahead (aheadOf m t v)

@@ -14,7 +14,8 @@ use board_slots::Map;
 // The visit of slot i by a call.
 fn placed(b: Board, words: &mut [u64], c: Call, i: usize) -> Played
     requires { ⌜ i < 256 ⌝ }
-    ensures { λ r. ⌜ Leaves (stored (lentTo b (now (words .entry))) i (visitOf c i (getD (b .slots) i freeRequest) (now (words .entry)))) r (now (words .exit)) ⌝ }
+    ensures { λ r. ⌜ Leaves (stored (lentTo b (now (words .entry))) i (visitOf c i (getD (b .slots) i freeRequest) (now (words .entry))))
+        r (now (words .exit)) ⌝ }
 {
     let mut next = b;
     let q = next.slots[i];

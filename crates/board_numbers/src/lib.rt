@@ -1,4 +1,4 @@
-// The answers of the board in the document's numbers, and whether a verb was sent. It relies on the contract of `agent_numbers` alone.
+// The answers of the board in numbers, and whether a verb was sent. It relies on the contract of `agent_numbers` alone.
 ghost use mathlib.Core.Path.{_≡_};
 ghost use Rattle.board_rules.specs.Answers.{namedSlot, saidOf, verbsOf};
 use board_call::Call;
@@ -17,7 +17,7 @@ fn named_slot(c: Call) -> u8
     }
 }
 
-// The document's numbers for the answer to a call.
+// The number, outcome, slot and value of the answer to a call.
 pub fn tell(c: Call, a: Answer) -> Said
     ensures { λ r. ⌜ r ≡ saidOf c a ⌝ }
 {

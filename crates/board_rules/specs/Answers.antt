@@ -1,4 +1,4 @@
--- The document's number, outcome, slot and value of every answer of the board, and the count of verbs.
+-- The number, outcome, slot and value of every answer of the board, and the count of verbs.
 use Prim.Native.Nat.{ℕ, _%_}
 use mathlib.Core.Bool.{Bool, true, false, _&&_}
 use lib.Dec.{eqb}
@@ -10,8 +10,8 @@ use Rattle.board_rules.specs.declared.Said.{Said}
 use Rattle.board_rules.specs.declared.Answer.{Answer}
 use Rattle.board_rules.specs.declared.Answer.the-variants.{Refused, Begun, Opened, Told, Shown}
 
--- What is said to a call that names the slot s, or to one that names none (0): a refusal has its number and outcome 0; begin has
--- outcome 0; 1 opened, in the slot that it got; 10 shown, with the word; and what the agent tells.
+-- Rules 5.1, 5.3 and 7.6: What is said to a call that names the slot s, or to one that names none (0): a refusal has its number and outcome
+-- 0; begin has outcome 0; 1 opened, in the slot that it got; 10 shown, with the word; and what the agent tells.
 abbrev pub saidWith : ℕ → Answer → Said
 saidWith s (Refused n) = record { number = n; outcome = 0; slot = s; value = 0 }
 saidWith s Begun = record { number = 0; outcome = 0; slot = s; value = 0 }
@@ -19,7 +19,7 @@ saidWith s (Opened k) = record { number = 0; outcome = 1; slot = k; value = 0 }
 saidWith s (Told a) = record { number = numbersOf a .number; outcome = numbersOf a .outcome; slot = s; value = numbersOf a .value }
 saidWith s (Shown w) = record { number = 0; outcome = 10; slot = s; value = w }
 
--- The slot that a call names, as one byte; 0 where it names none.
+-- Rule 7.6: The slot that a call names, as one byte; 0 where it names none.
 abbrev pub namedSlot : Call → ℕ
 namedSlot (Open r m) = 0
 namedSlot (Step i) = i % 256
@@ -29,7 +29,7 @@ namedSlot (Show r) = 0
 abbrev pub saidOf : Call → Answer → Said
 saidOf c a = saidWith (namedSlot c) a
 
--- A step and a release send a verb where they are accepted.
+-- Rule 7.4: A step and a release send a verb where they are accepted.
 abbrev pub sends : Call → Bool
 sends (Open r m) = false
 sends (Step i) = true

@@ -10,11 +10,11 @@ use Rattle.agent_rules.specs.declared.Verb.{Verb}
 use Rattle.agent_rules.specs.declared.Verb.the-variants.{Nothing, Add, Read, Swap}
 use Rattle.agent_request.specs.Request.{inUse}
 
--- At most 4,096 words are begun, and records go up to 4,095.
+-- Rule 4.2: At most 4,096 words are begun, and records go up to 4,095.
 abbrev pub RECORDS : ℕ
 RECORDS = 4096
 
--- A record is below the number of words lent, and not above 4,095.
+-- Rule 4.2: A record is below the number of words lent, and not above 4,095.
 abbrev pub isRecordOf : ℕ → ℕ → Bool
 isRecordOf r lent = ltb r lent && ltb r RECORDS
 
@@ -27,7 +27,7 @@ isNothing (Add k) = false
 isNothing Read = false
 isNothing (Swap old new) = false
 
--- Why a verb may not go out for a request: 4, 5, 2 in this order, the last on the slot's own record; 0 where it may.
+-- Rule 5.2: Why a verb may not go out for a request: 4, 5, 2 in this order, the last on the slot's own record; 0 where it may.
 unfoldable pub refusalOf : Request → Verb → List ℕ → ℕ
 refusalOf q verb ws =
     if not (inUse q) then 4 else

@@ -11,7 +11,7 @@ pub enum Answer {
     Shown(u64),
 }
 
-// An answer in the document's numbers.
+// An answer in numbers: rules 5.1, 5.3 and 7.6.
 pub struct Said {
     pub number: u8,
     pub outcome: u8,

@@ -6,20 +6,20 @@ use Rattle.common.specs.Choice.{if_then_else_}
 use Rattle.agent_request.specs.Request.{inUse, freeRequest}
 use Rattle.agent_request.specs.declared.Request.{Request}
 
--- A board has 256 slots.
+-- Rule 4.1: A board has 256 slots.
 abbrev pub SLOTS : ℕ
 SLOTS = 256
 
--- The lowest free slot; as many as there are slots where none is free.
+-- Rule 4.4: The lowest free slot; as many as there are slots where none is free.
 unfoldable pub lowestFree : List Request → ℕ
 lowestFree [] = zero
 lowestFree (q ∷ qs) = if inUse q then suc (lowestFree qs) else zero
 
--- How many slots are in use.
+-- Rule 4.8: How many slots are in use.
 unfoldable pub usedSlots : List Request → ℕ
 usedSlots [] = zero
 usedSlots (q ∷ qs) = if inUse q then suc (usedSlots qs) else usedSlots qs
 
--- The fresh table is one free request, 256 times.
+-- Rule 4.3: The fresh table is one free request, 256 times.
 abbrev pub freshSlots : List Request
 freshSlots = replicate SLOTS freeRequest

@@ -1,5 +1,5 @@
-// What can be seen of a board without a change: the word of a record, and how many slots are in use. It relies on the contracts of `board_map_kept` and
-// `board_map_read` alone.
+// What can be seen of a board without a change: the word of a record, and how many slots are in use. It relies on the contracts of
+// `board_map_kept` and `board_map_read` alone.
 ghost use mathlib.Core.Path.{_≡_};
 ghost use mathlib.Core.List.{[]};
 ghost use Rattle.board_slots.specs.Slots.{usedSlots};

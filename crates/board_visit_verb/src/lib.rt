@@ -63,7 +63,8 @@ fn go_out(q: Request, v: Verb, words: &mut [u64]) -> Went
     ensures number { λ r. ⌜ r .number ≡ refusalOf q v (now (words .entry)) ⌝ }
     ensures kept { λ r. ⌜ ((r .number ≡ 0 → ⊥) → now (words .exit) ≡ now (words .entry)) ⌝ }
     ensures value { λ r. ⌜ (r .number ≡ 0 → r .value ≡ getD (now (words .entry)) (q .«record») 0) ⌝ }
-    ensures left { λ r. ⌜ (r .number ≡ 0 → now (words .exit) ≡ set (now (words .entry)) (q .«record») (leftBy v (getD (now (words .entry)) (q .«record») 0))) ⌝ }
+    ensures left { λ r. ⌜ (r .number ≡ 0 →
+        now (words .exit) ≡ set (now (words .entry)) (q .«record») (leftBy v (getD (now (words .entry)) (q .«record») 0))) ⌝ }
 {
     let number = refusal(q, v, words);
     if number != 0 {

@@ -36,4 +36,6 @@ Ensured T = (w : World) (κs : Lfts (T .signature .lifetimes)) → Args (T .sign
 -- The claim that a contract makes: at every model, what it ensures is exactly that this claim holds.
 pub record Says (T : Ended) (ensures : Ensured T) : Type 2 where
   pub claim : Claim T
-  pub exactly : (w : World) (κs : Lfts (T .signature .lifetimes)) (a : Args (T .signature) κs) (r : Res (T .signature) κs) (s : AtExit T κs) → ensures w κs a r s ≡ fact (w .𝓤) (claim κs a r s)
+  pub exactly :
+      (w : World) (κs : Lfts (T .signature .lifetimes)) (a : Args (T .signature) κs) (r : Res (T .signature) κs) (s : AtExit T κs) →
+      ensures w κs a r s ≡ fact (w .𝓤) (claim κs a r s)

@@ -13,7 +13,7 @@ pub data Move : Type 0 where
   Begin : Move
   Do : Call → Move
 
--- A fresh board of n words, as an accepted begin leaves it.
+-- Rule 9.1: A fresh board of n words, as an accepted begin leaves it.
 abbrev pub fresh : ℕ → State
 fresh n = record { slots = freshSlots; words = replicate n 0 }
 
@@ -21,7 +21,7 @@ abbrev pub moved : Move → State → Done
 moved Begin s = begun s
 moved (Do c) s = played c s
 
--- The board after some calls.
+-- Rule 9.1: The board after some calls.
 unfoldable pub after : State → List Move → State
 after s [] = s
 after s (m ∷ ms) = after (stateOf (moved m s)) ms
@@ -40,7 +40,7 @@ abbrev pub noted : Move → Answer → Ledger → Ledger
 noted Begin a L = begunWith a L
 noted (Do c) a L = notedCall c a L
 
--- The ledger is read off calls and answers alone.
+-- Rule 9.2: The ledger is read off calls and answers alone.
 unfoldable pub readOff : Ledger → List Event → Ledger
 readOff L [] = L
 readOff L (e ∷ es) = readOff (noted (e .move) (e .answer) L) es

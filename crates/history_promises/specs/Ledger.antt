@@ -31,8 +31,8 @@ pub record Seat : Type 0 where
   pub kind : Mode
   pub place : ℕ
 
--- For each record its tickets since it began or was last cleared, oldest first; for each slot its seat. The tickets from before a clearing can be left
--- out: `ClearedOnly` says that each of them had been released.
+-- For each record its tickets since it began or was last cleared, oldest first; for each slot its seat. The tickets from before a clearing
+-- can be left out: `ClearedOnly` says that each of them had been released.
 pub record Ledger : Type 0 where
   pub tickets : ℕ → List Given
   pub seats : ℕ → Seat
@@ -61,13 +61,13 @@ staged g t = record { stage = g; about = t .about; kind = t .kind; place = t .pl
 abbrev pub mine : Ledger → ℕ → List Given
 mine L i = L .tickets (L .seats i .about)
 
--- A slot that asked is given a ticket, the youngest of its record.
+-- Rule 9.2: A slot that asked is given a ticket, the youngest of its record.
 abbrev pub drawn : ℕ → Stage → Ledger → Ledger
 drawn i g L =
     seated (ticketsNow L (L .seats i .about) (mine L i ++ record { kind = L .seats i .kind; slot = i; released = false } ∷ []))
     i (record { stage = g; about = L .seats i .about; kind = L .seats i .kind; place = length (mine L i) })
 
--- Granted or waiting: a slot that asks is given a ticket; one that waits already has it. None else is told so (`ToldByStage`).
+-- Rules 9.2 and 9.5: Granted or waiting: a slot that asks is given a ticket; one that waits already has it. None else is told so (`ToldByStage`).
 abbrev pub grantedOrWaits : Stage → ℕ → Stage → Ledger → Ledger
 grantedOrWaits Asks i g L = drawn i g L
 grantedOrWaits Waits i g L = seated L i (staged g (L .seats i))
@@ -76,7 +76,7 @@ grantedOrWaits Holds i g L = L
 grantedOrWaits Owes i g L = L
 grantedOrWaits Clears i g L = L
 
--- The ticket at a place is released.
+-- Rule 9.2: the ticket at a place is released.
 abbrev pub asReleased : Given → Given
 asReleased t = record { kind = t .kind; slot = t .slot; released = true }
 
@@ -86,7 +86,7 @@ releasedAt l p = set l p (asReleased (ticketAt l p))
 abbrev pub ticketReleased : ℕ → Seat → Ledger → Ledger
 ticketReleased i t L = seated (ticketsNow L (L .seats i .about) (releasedAt (mine L i) (L .seats i .place))) i t
 
--- What a step's answer tells of its slot.
+-- Rules 9.2, 9.3 and 9.5: What a step's answer tells of its slot.
 abbrev pub stepTold : ℕ → Tells → Ledger → Ledger
 stepTold i Granted L = grantedOrWaits (L .seats i .stage) i Holds L
 stepTold i (Waiting n) L = grantedOrWaits (L .seats i .stage) i Waits L
@@ -99,7 +99,7 @@ stepTold i WrongPhase L = L
 stepTold i Released L = L
 stepTold i ClearingDue L = L
 
--- What a release's answer tells of its slot.
+-- Rules 9.2 and 9.5: What a release's answer tells of its slot.
 abbrev pub releaseTold : ℕ → Tells → Ledger → Ledger
 releaseTold i Released L = ticketReleased i free L
 releaseTold i ClearingDue L = ticketReleased i (staged Clears (L .seats i)) L
@@ -112,11 +112,11 @@ releaseTold i NotYetClear L = L
 releaseTold i WrongPhase L = L
 releaseTold i Passed L = L
 
--- A mode of 0 is a reader's, another a writer's.
+-- Rule 2.2: A mode of 0 is a reader's, another a writer's.
 abbrev pub kindOf : ℕ → Mode
 kindOf m = if eqb m 0 then Reader else Writer
 
--- What a call and its answer tell. A refusal tells nothing.
+-- Rules 9.2 and 9.3: What a call and its answer tell. A refusal tells nothing.
 abbrev pub notedCall : Call → Answer → Ledger → Ledger
 notedCall (Open r m) (Opened k) L = seated L k (record { stage = Asks; about = r; kind = kindOf m; place = 0 })
 notedCall (Open r m) (Refused n) L = L
@@ -135,7 +135,7 @@ notedCall (Release i) (Opened k) L = L
 notedCall (Release i) (Shown w) L = L
 notedCall (Show r) a L = L
 
--- An accepted begin starts a new ledger.
+-- Rule 9.1: An accepted begin starts a new ledger.
 abbrev pub begunWith : Answer → Ledger → Ledger
 begunWith Begun L = blank
 begunWith (Refused n) L = L

@@ -1,4 +1,4 @@
--- Demand 3, in the order of its sentences. Statements only: proofs/ has why each holds.
+-- Demand 3 of docs/RULES.md, section 11, in the order of its sentences. Statements only: proofs/ has why each holds.
 use Prim.Native.Nat.{ℕ, _<_, _≤_}
 use mathlib.Core.Path.{_≡_}
 use mathlib.Core.Logic.{_↔_, _⊎_}
@@ -18,7 +18,7 @@ use Rattle.history_promises.specs.Ledger.{Ledger, mine}
 use Rattle.history_promises.specs.Ledger.Stage.{Asks, Waits, Holds, Owes, Clears}
 use Rattle.history_promises.specs.History.{Move, ledgerAfter, boardAfter, answerAfter}
 
--- While a writer holds a record nobody else holds it.
+-- Demand D3.1: While a writer holds a record nobody else holds it.
 abbrev pub WriterHoldsAlone : Ledger → Type 0
 WriterHoldsAlone L =
     (i j : ℕ) →
@@ -28,8 +28,8 @@ WriterHoldsAlone L =
     L .seats j .about ≡ L .seats i .about →
     i ≡ j
 
--- A step that draws a ticket, which is a step of a slot that asks that is not answered full, is granted exactly when every earlier conflicting
--- ticket on that record has been released,
+-- Demand D3.2: A step that draws a ticket, which is a step of a slot that asks that is not answered full, is granted exactly when every
+-- earlier conflicting ticket on that record has been released,
 abbrev pub DrawnIsGrantedExactly : Ledger → (Call → Answer) → Type 0
 DrawnIsGrantedExactly L says =
     (i : ℕ) →
@@ -37,18 +37,19 @@ DrawnIsGrantedExactly L says =
     (says (Step i) ≡ Told Full → ⊥) →
     (says (Step i) ≡ Told Granted) ↔ EarlierReleased (mine L i) (L .seats i .kind) (length (mine L i))
 
--- and so is one that waits with a ticket.
+-- Demand D3.3: and so is one that waits with a ticket.
 abbrev pub WaitingIsGrantedExactly : Ledger → (Call → Answer) → Type 0
 WaitingIsGrantedExactly L says =
     (i : ℕ) →
     L .seats i .stage ≡ Waits →
     (says (Step i) ≡ Told Granted) ↔ EarlierReleased (mine L i) (L .seats i .kind) (L .seats i .place)
 
--- None is told that it has passed.
+-- Demand D3.4: None is told that it has passed.
 abbrev pub NonePassed : (Call → Answer) → Type 0
 NonePassed says = (c : Call) → says c ≡ Told Passed → ⊥
 
--- A request that asks is turned away exactly when 32,768 tickets of one kind had been given on the record since it began or was last cleared.
+-- Demand D3.5: A request that asks is turned away exactly when 32,768 tickets of one kind had been given on the record since it began or
+-- was last cleared.
 abbrev pub FullExactly : Ledger → (Call → Answer) → Type 0
 FullExactly L says =
     (i : ℕ) →
@@ -59,7 +60,7 @@ FullExactly L says =
 abbrev pub NoneOwed : Ledger → ℕ → Type 0
 NoneOwed L r = (j : ℕ) → L .seats j .stage ≡ Owes → L .seats j .about ≡ r → ⊥
 
--- Clearing happens only with no ticket unreleased and no withdrawal owed,
+-- Demand D3.6: Clearing happens only with no ticket unreleased and no withdrawal owed,
 abbrev pub ClearedOnly : Ledger → (Call → Answer) → Type 0
 ClearedOnly L says =
     (i : ℕ) →
@@ -75,12 +76,12 @@ ClearedThen L says =
     NoneOwed L (L .seats i .about) →
     says (Step i) ≡ Told Cleared
 
--- No counter of any of the n words exceeds 33,023.
+-- Demand D3.7: No counter of any of the n words exceeds 33,023.
 abbrev pub CountersStaySmall : ℕ → State → Type 0
 CountersStaySmall n s = (r : ℕ) (k : Counter) → r < n → heldBy k (getD (s .words) r 0) ≤ 33023
 
--- The six parts of demand 3, of n words, a ledger, a board, and what it answers next. The second part is two fields, and one that is not asked for stands beside
--- the fifth.
+-- The six parts of demand 3, of n words, a ledger, a board, and what it answers next. The second part is two fields, and one that is not
+-- asked for stands beside the fifth.
 pub record Demand (n : ℕ) (L : Ledger) (s : State) (says : Call → Answer) : Type 0 where
   pub alone : WriterHoldsAlone L
   pub drawn-granted : DrawnIsGrantedExactly L says

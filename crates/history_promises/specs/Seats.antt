@@ -36,7 +36,8 @@ TicketHasItsSeat n L =
     HasTicket (L .seats (ticketAt (L .tickets r) j .slot) .stage) ×
     (L .seats (ticketAt (L .tickets r) j .slot) .about ≡ r) × (L .seats (ticketAt (L .tickets r) j .slot) .place ≡ j)
 
--- What a step is told, by its slot's stage: so a step of a slot that asks, waits, owes or clears is never refused, and none but a slot that asks is told full.
+-- What a step is told, by its slot's stage: so a step of a slot that asks, waits, owes or clears is never refused, and none but a slot that
+-- asks is told full.
 abbrev pub StepTells : Stage → Answer → Type 0
 StepTells Nobody a = (a ≡ Refused 1) ⊎ (a ≡ Refused 4)
 StepTells Asks a = (a ≡ Told Full) ⊎ ((a ≡ Told Granted) ⊎ ((n : ℕ) × (a ≡ Told (Waiting n))))

@@ -14,7 +14,7 @@ pub record Given : Type 0 where
   pub slot : ℕ
   pub released : Bool
 
--- Two tickets conflict unless both are shared.
+-- Rule 9.4: Two tickets conflict unless both are shared.
 abbrev pub conflicts : Mode → Mode → Bool
 conflicts Reader Reader = false
 conflicts Reader Writer = true

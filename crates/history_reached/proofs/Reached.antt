@@ -1,5 +1,5 @@
--- Why the ceiling is reached: a reader that opens, steps and lets go leaves the record as it was with one ticket more, so 32,767 such rounds lead to the
--- last ticket, whose holder must clear. By induction on the rounds: none of them is computed.
+-- Why the ceiling is reached: a reader that opens, steps and lets go leaves the record as it was with one ticket more, so 32,767 such
+-- rounds lead to the last ticket, whose holder must clear. By induction on the rounds: none of them is computed.
 -- Assumes nothing.
 use Prim.Native.Nat.{ℕ, zero, suc, _+_, _<_}
 use mathlib.Core.Path.{_≡_, refl, ap, subst, _∙_}

@@ -17,7 +17,8 @@ pub record ReadsBack (d : Said) : Type 0 where
   pub slot : byteIn d 2 ≡ d .slot
   pub none : byteIn d 3 ≡ 0
   pub value :
-      byteIn d 4 + byteIn d 5 * 2 ^ 8 + byteIn d 6 * 2 ^ 16 + byteIn d 7 * 2 ^ 24 + byteIn d 8 * 2 ^ 32 + byteIn d 9 * 2 ^ 40 + byteIn d 10 * 2 ^ 48 + byteIn d 11 * 2 ^ 56 ≡
+      byteIn d 4 + byteIn d 5 * 2 ^ 8 + byteIn d 6 * 2 ^ 16 + byteIn d 7 * 2 ^ 24 +
+      byteIn d 8 * 2 ^ 32 + byteIn d 9 * 2 ^ 40 + byteIn d 10 * 2 ^ 48 + byteIn d 11 * 2 ^ 56 ≡
       d .value
 
 abbrev pub EntryReadsBack : Type 0

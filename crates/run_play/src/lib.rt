@@ -47,7 +47,8 @@ fn came_to(ending: u8, records: usize, bytes: usize, verbs: usize, board: Board)
     }
 }
 
-// Plays the schedule from a place on, within an allowance of records and the room of the report.
+// Plays the schedule from a place on, within an allowance of records and the room of the report. It stays above 40 lines: a function for a part
+// of its loop would take the board and copy it, and one for the two tests ahead costs each step a fifth more instructions.
 pub fn run(
     b: Board,
     words: &mut [u64],
@@ -56,7 +57,8 @@ pub fn run(
     allowance: usize,
     report: &mut [u8],
 ) -> Ran
-    ensures ran { λ r. ⌜ Comes (b .slots) (now (words .entry)) (now (s .entry)) at allowance (now (report .entry)) r (now (words .exit)) (now (report .exit)) ⌝ }
+    ensures ran { λ r. ⌜ Comes (b .slots) (now (words .entry)) (now (s .entry)) at allowance (now (report .entry))
+        r (now (words .exit)) (now (report .exit)) ⌝ }
 {
     let mut cur = b;
     let mut map = board_map_kept::map_of(b);

@@ -14,7 +14,7 @@ use Rattle.schedule_bytes.specs.declared.Next.{Next}
 use Rattle.schedule_bytes.specs.declared.Next.the-variants.{Record, End, Unknown, Cut}
 use Rattle.run_entry.specs.Entry.{ENTRY, entryOf}
 
--- What a run comes to: the ending number, the records played, the place after them, the verbs sent, the board and the words, and the bytes
+-- Rule 7.4: What a run comes to: the ending number, the records played, the place after them, the verbs sent, the board and the words, and the bytes
 -- of the report's entries.
 pub record Whole : Type 0 where
   pub ending : ℕ
@@ -28,11 +28,11 @@ pub record Whole : Type 0 where
 abbrev pub stateAfter : Whole → State
 stateAfter w = record { slots = w .slots; words = w .words }
 
--- It ends here, before any record.
+-- Rule 7.2: It ends here, before any record.
 abbrev pub ended : ℕ → ℕ → State → Whole
 ended n at s = record { ending = n; records = 0; place = at; verbs = 0; slots = s .slots; words = s .words; entries = [] }
 
--- One record was played, with this answer, and then the rest.
+-- Rules 7.3 to 7.5: One record was played, with this answer, and then the rest.
 abbrev pub followed : Call → Answer → Whole → Whole
 followed c a w =
     record {
@@ -45,15 +45,15 @@ followed c a w =
       entries = entryOf (saidOf c a) ++ w .entries;
     }
 
--- With the allowance spent: at the end of the schedule 0, else 11.
+-- Rule 7.2: With the allowance spent: at the end of the schedule 0, else 11.
 abbrev pub spent : Next → ℕ → State → Whole
 spent End at s = ended 0 at s
 spent (Record c next) at s = ended 11 at s
 spent Unknown at s = ended 11 at s
 spent Cut at s = ended 11 at s
 
--- Before each record, in this order: schedule at its end, 0; less than 12 report bytes left, 12; unknown kind, 8; body short, 7. Else the
--- call is played, refused or not, and the run goes on.
+-- Rules 7.2 and 7.3: Before each record, in this order: schedule at its end, 0; less than 12 report bytes left, 12; unknown kind, 8; body
+-- short, 7. Else the call is played, refused or not, and the run goes on.
 abbrev pub goesOn : Next → Bool → ℕ → State → (ℕ → State → Whole) → Whole
 goesOn End short at s rest = ended 0 at s
 goesOn Unknown true at s rest = ended 12 at s
@@ -63,12 +63,12 @@ goesOn Cut false at s rest = ended 7 at s
 goesOn (Record c next) true at s rest = ended 12 at s
 goesOn (Record c next) false at s rest = followed c (played c s .answer) (rest next (stateOf (played c s)))
 
--- The run with an allowance, the room that its report has left, the schedule, the place, and the state.
+-- Rule 7.1: The run with an allowance, the room that its report has left, the schedule, the place, and the state.
 unfoldable pub runOf : ℕ → ℕ → List ℕ → ℕ → State → Whole
 runOf zero room bytes at s = spent (nextOf bytes at) at s
 runOf (suc allowance) room bytes at s = goesOn (nextOf bytes at) (ltb room ENTRY) at s (λ next t. runOf allowance (room - ENTRY) bytes next t)
 
--- The report afterwards: the entries, and past them the bytes as lent.
+-- Rule 7.5: The report afterwards: the entries, and past them the bytes as lent.
 abbrev pub reportOf : List ℕ → Whole → List ℕ
 reportOf lent w = w .entries ++ drop (length (w .entries)) lent
 

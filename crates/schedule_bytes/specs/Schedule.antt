@@ -9,7 +9,7 @@ use Rattle.board_call.specs.declared.Call.the-variants.{Open, Step, Release, Sh
 use Rattle.schedule_bytes.specs.declared.Next.{Next}
 use Rattle.schedule_bytes.specs.declared.Next.the-variants.{Record, End, Unknown, Cut}
 
--- 1 open (record, 2 bytes low first; mode, 1), 2 step (slot, 1), 3 release (slot, 1), 4 show (record, 2).
+-- Rule 6.1: 1 open (record, 2 bytes low first; mode, 1), 2 step (slot, 1), 3 release (slot, 1), 4 show (record, 2).
 abbrev pub OPEN : ℕ
 OPEN = 1
 
@@ -22,25 +22,25 @@ RELEASE = 3
 abbrev pub SHOW : ℕ
 SHOW = 4
 
--- How long the body of a kind is; 0 for a kind that is unknown.
+-- Rule 6.1: How long the body of a kind is; 0 for a kind that is unknown.
 unfoldable pub bodyOf : ℕ → ℕ
 bodyOf k = if eqb k OPEN then 3 else if eqb k STEP then 1 else if eqb k RELEASE then 1 else if eqb k SHOW then 2 else 0
 
--- The byte at a place, and two bytes there low first.
+-- Rule 6.1: The byte at a place, and two bytes there low first.
 abbrev pub byteAt : List ℕ → ℕ → ℕ
 byteAt s i = getD s i 0
 
 abbrev pub pairAt : List ℕ → ℕ → ℕ
 pairAt s i = byteAt s i + byteAt s (i + 1) * 256
 
--- The call of a known kind whose body begins at a place.
+-- Rule 6.1: The call of a known kind whose body begins at a place.
 unfoldable pub callAt : ℕ → List ℕ → ℕ → Call
 callAt k s i =
     if eqb k OPEN then Open (pairAt s i) (byteAt s (i + 2)) else
     if eqb k STEP then Step (byteAt s i) else
     if eqb k RELEASE then Release (byteAt s i) else Show (pairAt s i)
 
--- What stands at a place: at or past the end, the end; a kind with no body, unknown; a body that runs past the end, cut; else the record,
+-- Rule 6.2: What stands at a place: at or past the end, the end; a kind with no body, unknown; a body that runs past the end, cut; else the record,
 -- with the place after it.
 unfoldable pub nextOf : List ℕ → ℕ → Next
 nextOf s at =

@@ -13,7 +13,7 @@ use Rattle.schedule_reader.specs.declared.Handed.{Handed}
 abbrev pub standing : RefT (List ℕ) → ℕ → Reader
 standing s at = record { src = s; at = at }
 
--- The place after what stands there: past a record; the end, an unknown kind and a cut body leave it.
+-- Rule 6.3: The place after what stands there: past a record; the end, an unknown kind and a cut body leave it.
 abbrev pub placeAfter : Next → ℕ → ℕ
 placeAfter (Record c next) at = next
 placeAfter End at = at
@@ -24,11 +24,11 @@ placeAfter Cut at = at
 abbrev pub handedOf : List ℕ → ℕ → Handed
 handedOf s at = record { next = nextOf s at; at = placeAfter (nextOf s at) at }
 
--- What a reader hands out at its place.
+-- Rule 6.3: What a reader hands out at its place.
 abbrev pub atPlace : Reader → Next
 atPlace r = nextOf (now (r .src)) (r .at)
 
--- The reader after one reading: the slice is the same, the place is the one after.
+-- Rule 6.3: The reader after one reading: the slice is the same, the place is the one after.
 abbrev pub movedOn : Reader → Reader
 movedOn r = record { src = r .src; at = placeAfter (atPlace r) (r .at) }
 

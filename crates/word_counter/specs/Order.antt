@@ -5,7 +5,7 @@ use lib.Dec.{eqb, leb, ltb}
 use Rattle.word_counter.specs.declared.Exclusive.{Exclusive}
 use Rattle.word_counter.specs.declared.Shared.{Shared}
 
--- Two exclusive counters: the first is past the second; has reached it; equals it; how far it is beyond it, 0 where it is not.
+-- Rule 1.3: Two exclusive counters: the first is past the second; has reached it; equals it; how far it is beyond it, 0 where it is not.
 abbrev pub exceedsX : Exclusive → Exclusive → Bool
 exceedsX a b = ltb (b .0) (a .0)
 
@@ -18,7 +18,7 @@ equalsX a b = eqb (a .0) (b .0)
 abbrev pub beyondX : Exclusive → Exclusive → ℕ
 beyondX a b = a .0 - b .0
 
--- The same of two shared counters. No comparison takes one of each kind.
+-- Rule 1.3: The same of two shared counters. No comparison takes one of each kind.
 abbrev pub exceedsS : Shared → Shared → Bool
 exceedsS a b = ltb (b .0) (a .0)
 

@@ -1,5 +1,5 @@
--- `board_map_kept::part` meets its contract. From the last slot down it collects one bit for each: what is collected are the bits of the slots from j on
--- (`collected`), and before each turn there is room for one digit more.
+-- `board_map_kept::part` meets its contract. From the last slot down it collects one bit for each: what is collected are the bits of the
+-- slots from j on (`collected`), and before each turn there is room for one digit more.
 -- Assumes nothing.
 use borrow.Author.Needs.{needs}
 use native.Mathlib.Omega.{arith}

@@ -1,6 +1,6 @@
--- `run_play::run` meets its contract. While it goes on, the whole run is what has been played so far and the run from here (`Playing`); a turn plays
--- one record and keeps that (`plays-one`, `waits-one`, `opens-one`), and where the run stops nothing is left (`halts-here`, `leaves-here`). The measure is
--- what is left of the allowance.
+-- `run_play::run` meets its contract. While it goes on, the whole run is what has been played so far and the run from here (`Playing`); a
+-- turn plays one record and keeps that (`plays-one`, `waits-one`, `opens-one`), and where the run stops nothing is left (`halts-here`,
+-- `leaves-here`). The measure is what is left of the allowance.
 -- Assumes nothing.
 use Prim.Native.Nat.{ℕ, _+_, _-_, _*_, _<_, _≤_, _^_}
 use mathlib.Core.Path.{_≡_, _∙_, sym, ap, subst}

@@ -1,5 +1,7 @@
--- `schedule_reader::first` meets its contract: a walk of its MIR, by hand. The `Reader` that `new` returns is stored in a local, the local is lent to `next` by `&mut` and comes back at the reader that `next` left, and its place is read. All that the proof knows of `new` and of `next` is that each meets its contract.
--- `next` asks that the slice outlives the loan, so the loan's lifetime is a ∷ κ: a is made for the call, and κ is the slice's, whose token is halved for it.
+-- `schedule_reader::first` meets its contract: a walk of its MIR, by hand. The `Reader` that `new` returns is stored in a local, the local
+-- is lent to `next` by `&mut` and comes back at the reader that `next` left, and its place is read. All that the proof knows of `new` and
+-- of `next` is that each meets its contract. `next` asks that the slice outlives the loan, so the loan's lifetime is a ∷ κ: a is made for
+-- the call, and κ is the slice's, whose token is halved for it.
 -- Assumes nothing.
 use mathlib.Core.Path.{_≡_, refl, ap, _∙_}
 use Prim.Native.Nat.{ℕ, _<_, _^_}
@@ -202,7 +204,8 @@ module _ {M : Type 1} (𝓤 : URA M) (H : Heap 𝓤) (A : Atoms 𝓤) (W : Given
         use1 W (later (some (λ (t : Next). ((‵ (flft (a ∷ κ) half) ⊛ ‵ (flft κ half′) ⊛ ‵ ftrue) ⊛ ‵ (N.the-row .own t (w ∷ []))) ⊛ raw (ensured 𝓤 H A next.ended (next.clauses 𝓤 H A at-mem run) (a ∷ κ, (κ, tt)) (lent-at r l₃ δ, tt) tt t)))) (id⊢ 𝓤 _) $ await ! tt $ pick ! (λ t.
         split ! $ move ! (1 ∷ []) $ use1 W (some (λ (zs : Reader × Unit {0}). ‵ (lasts next.ended (a ∷ κ, (κ, tt)) (lent-at r l₃ δ, tt) zs) ⊛ raw (fact 𝓤 ((t ≡ atPlace r) × (zs .0 ≡ movedOn r))))) (id⊢ 𝓤 _) $ pick ! (λ zs.
         split ! $ move ! (1 ∷ []) $ heard ! ((t ≡ atPlace r) × (zs .0 ≡ movedOn r)) (λ f. fsplit ! $ move ! (2 ∷ []) $ split ! $ move ! (1 ∷ []) $
-        -- [the answer; the tokens; the last value; …; the lender's part; the rest of a's; …; what s owns; _7; …; _6; …; _5; …; _4; …; …; _2; …; _1; …; _0; …]
+        -- [the answer; the tokens; the last value; …; the lender's part; the rest of a's; …; what s owns; _7; …; _6; …; _5; …; _4; …; …;
+        -- _2; …; _1; …; _0; …]
         peeks ! N.the-row (Is N.the-row) (shows 𝓤 H A N.the-row) t (w ∷ []) (λ is′.
         land ! (from ! (stop !)) (init ! 14 refl (EL.lawful N.the-type N′.the-laws 𝓤 H A W tt .typed t _ is′ .0)) $
         -- the loan is ended, and the local comes back

@@ -1,5 +1,7 @@
--- `schedule_reader::next` meets its contract: a walk of its MIR, by hand. The borrow is opened, `read_at` is called on the slice and the place that the struct holds, the place that it answered is stored, and the borrow is closed at the struct with that place.
--- The struct is Copy: what it owns is had twice, one copy is kept, and of the other what src owns goes to the callee. All that the proof knows of `read_at` is that it meets its contract.
+-- `schedule_reader::next` meets its contract: a walk of its MIR, by hand. The borrow is opened, `read_at` is called on the slice and the
+-- place that the struct holds, the place that it answered is stored, and the borrow is closed at the struct with that place. The struct is
+-- Copy: what it owns is had twice, one copy is kept, and of the other what src owns goes to the callee. All that the proof knows of
+-- `read_at` is that it meets its contract.
 -- Assumes nothing.
 use mathlib.Core.Path.{_≡_, refl, ap, subst}
 use Prim.Native.Nat.{ℕ, _<_, _^_}
