@@ -21,7 +21,7 @@ verbOf (verb.Add k) = record { kind = 1; first = k; second = 0 }
 verbOf verb.Read = record { kind = 2; first = 0; second = 0 }
 verbOf (verb.Swap old new) = record { kind = 3; first = old; second = new }
 
--- Rules 5.1 and 5.3: the number and the outcome of an answer, and the number ahead.
+-- Rules 3.7, 5.1 and 5.3: the number and the outcome of an answer, and the number ahead.
 abbrev pub toldOf : Answer → CTold
 toldOf a = record { number = numbersOf a .number; outcome = numbersOf a .outcome; ahead = numbersOf a .value }
 

@@ -44,7 +44,7 @@ usedPhase Clearing = true
 abbrev pub inUse : Request → Bool
 inUse q = usedPhase (phaseOf (q .phase))
 
--- Rule 2.1: Having no clearing word is kept as the number 0. `ClearingWordIsSome` says that the rules give no clearing word 0.
+-- Decision 4: Having no clearing word is kept as the number 0. `ClearingWordIsSome` says that the rules give no clearing word 0.
 abbrev pub NONE : ℕ
 NONE = 0
 

@@ -102,7 +102,7 @@ asked q p = if fullAt p then becomes (inPhase Owing q) answer.Full else waited (
 abbrev pub swapped : Request → ℕ → Taken
 swapped q v = if eqb v (q .clearing) then freed answer.Cleared else becomes q answer.NotYetClear
 
--- Rules 3.2 to 3.13: What a request becomes when the result v of its step's verb arrives, by phase. A free or a Held one stays, and is told
+-- Rules 3.2 to 3.9 and 3.11 to 3.13: What a request becomes when the result v of its step's verb arrives, by phase. A free or a Held one stays, and is told
 -- wrong phase.
 abbrev pub stepTakesIn : Phase → Request → ℕ → Taken
 stepTakesIn Free q v = becomes q answer.WrongPhase

@@ -35,14 +35,14 @@ stateOf d = record { slots = d .slots; words = d .words }
 abbrev pub refused : ℕ → State → Done
 refused n s = record { slots = s .slots; words = s .words; answer = Refused n }
 
--- Rule 4.3: Begin: 9 for 0 words or more than 4,096; else all lent words 0 and all slots free.
+-- Rules 4.3 and 5.1: Begin: 9 for 0 words or more than 4,096; else all lent words 0 and all slots free.
 unfoldable pub begun : State → Done
 begun s =
     if eqb (length (s .words)) 0 || ltb RECORDS (length (s .words))
     then refused 9 s
     else record { slots = freshSlots; words = replicate (length (s .words)) 0; answer = Begun }
 
--- Rule 4.4: Open: 2, 3, 6 in this order; else the lowest free slot asks. No verb.
+-- Rules 4.4 and 5.2: Open: 2, 3, 6 in this order; else the lowest free slot asks. No verb.
 unfoldable pub opened : ℕ → ℕ → State → Done
 opened r m s =
     if not (isRecord r (s .words)) then refused 2 s else
@@ -54,7 +54,7 @@ opened r m s =
       answer = Opened (lowestFree (s .slots));
     }
 
--- Rules 4.5 and 4.6: The verb sent for the slot i, whose request is q, and its result taken: the verb changes the record's word, and the
+-- Rules 4.5, 4.6 and 5.2: The verb sent for the slot i, whose request is q, and its result taken: the verb changes the record's word, and the
 -- request becomes what it makes of the word that was there.
 unfoldable pub sent : ℕ → Request → Verb → (ℕ → Taken) → State → Done
 sent i q verb takes s =
@@ -71,15 +71,15 @@ sent i q verb takes s =
 abbrev pub slotAt : State → ℕ → Request
 slotAt s i = getD (s .slots) i freeRequest
 
--- Rule 4.5: Step: 1 for a slot above 255, then as above with the phase's verb.
+-- Rules 4.5 and 5.2: Step: 1 for a slot above 255, then as above with the phase's verb.
 unfoldable pub stepped : ℕ → State → Done
 stepped i s = if leb SLOTS i then refused 1 s else sent i (slotAt s i) (stepSends (slotAt s i)) (stepTakes (slotAt s i)) s
 
--- Rule 4.6: Release: the same with the release verb.
+-- Rules 4.6 and 5.2: Release: the same with the release verb.
 unfoldable pub released : ℕ → State → Done
 released i s = if leb SLOTS i then refused 1 s else sent i (slotAt s i) (releaseSends (slotAt s i)) (releaseTakes (slotAt s i)) s
 
--- Rule 4.7: Show: 2, else the word.
+-- Rules 4.7 and 5.2: Show: 2, else the word.
 unfoldable pub shown : ℕ → State → Done
 shown r s =
     if isRecord r (s .words)

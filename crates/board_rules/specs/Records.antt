@@ -10,7 +10,7 @@ use Rattle.agent_rules.specs.declared.Verb.{Verb}
 use Rattle.agent_rules.specs.declared.Verb.the-variants.{Nothing, Add, Read, Swap}
 use Rattle.agent_request.specs.Request.{inUse}
 
--- Rule 4.2: At most 4,096 words are begun, and records go up to 4,095.
+-- Rules 4.2 and 5.1: At most 4,096 words are begun, and records go up to 4,095.
 abbrev pub RECORDS : ℕ
 RECORDS = 4096
 

@@ -40,7 +40,7 @@ abbrev pub noted : Move → Answer → Ledger → Ledger
 noted Begin a L = begunWith a L
 noted (Do c) a L = notedCall c a L
 
--- Rule 9.2: The ledger is read off calls and answers alone.
+-- Section 9 of the rules: the ledger is read off calls and answers alone.
 unfoldable pub readOff : Ledger → List Event → Ledger
 readOff L [] = L
 readOff L (e ∷ es) = readOff (noted (e .move) (e .answer) L) es
