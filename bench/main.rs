@@ -50,7 +50,7 @@ fn outcome(run: Run, load: &Load, room: usize) -> (u64, Vec<u64>, Vec<u8>) {
 /// Runs of the rival on 2 words whose ending, records and bytes are known: the rows of `run_rules`'s specs/Examples.antt.
 fn wrong_ending() -> Option<String> {
     const WORKED: &[u8] = &[1, 0, 0, 1, 2, 0, 3, 0, 4, 0, 0];
-    let rows: [(usize, usize, &[u8], usize, (u8, usize, usize, u64)); 11] = [
+    let rows: [(usize, usize, &[u8], usize, (u8, usize, usize, u64)); 13] = [
         (10, 100, WORKED, 0, (0, 4, 11, 2)),
         (1, 100, WORKED, 0, (11, 1, 4, 0)),
         (0, 100, WORKED, 11, (0, 0, 0, 0)),
@@ -61,6 +61,8 @@ fn wrong_ending() -> Option<String> {
         (10, 11, &[5], 0, (12, 0, 0, 0)),
         (10, 100, &[1, 0, 0], 0, (7, 0, 0, 0)),
         (10, 11, &[2], 0, (12, 0, 0, 0)),
+        (10, 100, &[1, 0, 0, 1, 2, 0, 9], 0, (8, 2, 6, 1)),
+        (10, 100, &[1, 0, 0, 1, 2], 0, (7, 1, 4, 0)),
         (10, 100, &[2, 9, 4, 1, 0], 0, (0, 2, 5, 0)),
     ];
     rows.iter()

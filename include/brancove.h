@@ -4,8 +4,11 @@
  * The functions are in libagent_c.a (x86-64). Each is proved to do what the rules say, for every content of a request and every
  * 64-bit result. They send nothing, wait for nothing, allocate nothing and keep nothing between calls: the caller owns the request,
  * sends the verb to the record's lock word, and chooses when to try again. Two threads may not use one request at the same time.
- * That a writer is alone and that no ticket passes is proved for at most 256 requests in use at a time on all words together, every word 0 at first and
- * touched by these verbs alone.
+ *
+ * What requests do to each other is proved of a board that plays whole calls, one after the other: a call sends its verb and takes the result before
+ * the next call begins. There a writer is alone and no ticket passes, with at most 256 requests in use at a time on all words together, at most
+ * 4,096 words, every word 0 at first and touched by these verbs alone. An agent that sends now and takes the result later, while others send, is
+ * not what that theorem speaks of. In every case a verb is sent exactly once for each call of a `_sends`, and its result taken once.
  *
  *     brancove_request q = {0};
  *     brancove_ask(&q, record, BRANCOVE_WRITER);
@@ -93,7 +96,7 @@ typedef struct brancove_verb {
 typedef struct brancove_told {
     uint8_t number;
     uint8_t outcome;
-    uint64_t ahead; /* tickets that the request waits for, where the outcome is to wait, else 0 */
+    uint64_t ahead; /* the number ahead where the outcome is to wait, else 0; a reader's counts earlier readers too, whom it does not wait for */
 } brancove_told;
 
 /* The four counters of a lock word, highest bits first: releases of writers and readers, then their next tickets. */

@@ -1,11 +1,11 @@
 // The answers of the agent in numbers. It relies on types alone.
 ghost use mathlib.Core.Path.{_≡_};
-ghost use Rattle.agent_rules.specs.Answers.{accepted, refused, numbersOf};
+ghost use Rattle.agent_rules.specs.Answers.{acceptedWith, refusedWith, numbersOf};
 use agent_rules::Answer;
 use agent_rules::Numbers;
 
 fn refused(number: u8) -> Numbers
-    ensures { λ r. ⌜ r ≡ refused number ⌝ }
+    ensures { λ r. ⌜ r ≡ refusedWith number ⌝ }
 {
     Numbers {
         number,
@@ -15,7 +15,7 @@ fn refused(number: u8) -> Numbers
 }
 
 fn accepted(outcome: u8, value: u64) -> Numbers
-    ensures { λ r. ⌜ r ≡ accepted outcome value ⌝ }
+    ensures { λ r. ⌜ r ≡ acceptedWith outcome value ⌝ }
 {
     Numbers {
         number: 0,

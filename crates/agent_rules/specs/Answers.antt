@@ -6,23 +6,23 @@ use Rattle.agent_rules.specs.declared.Answer.the-variants.{WrongPhase, G
 use Rattle.agent_rules.specs.declared.Answer.the-variants.{ClearingDue, Cleared, NotYetClear, Passed}
 
 -- Rules 5.1 and 5.3: Accepted is number 0, with an outcome and, for waiting, the number ahead.
-abbrev pub accepted : ℕ → ℕ → Numbers
-accepted o v = record { number = 0; outcome = o; value = v }
+abbrev pub acceptedWith : ℕ → ℕ → Numbers
+acceptedWith o v = record { number = 0; outcome = o; value = v }
 
 -- Rules 5.1 and 5.3: A refusal has its number, and outcome 0.
-abbrev pub refused : ℕ → Numbers
-refused n = record { number = n; outcome = 0; value = 0 }
+abbrev pub refusedWith : ℕ → Numbers
+refusedWith n = record { number = n; outcome = 0; value = 0 }
 
 -- Rules 5.1 and 5.3: Refusals: 5 wrong phase. Outcomes: 2 granted, 3 waiting, 4 full, 5 withdrawn, 6 released, 7 clearing due, 8 cleared,
 -- 9 not yet clear, 11 passed.
 abbrev pub numbersOf : Answer → Numbers
-numbersOf WrongPhase = refused 5
-numbersOf Granted = accepted 2 0
-numbersOf (Waiting ahead) = accepted 3 ahead
-numbersOf Full = accepted 4 0
-numbersOf Withdrawn = accepted 5 0
-numbersOf Released = accepted 6 0
-numbersOf ClearingDue = accepted 7 0
-numbersOf Cleared = accepted 8 0
-numbersOf NotYetClear = accepted 9 0
-numbersOf Passed = accepted 11 0
+numbersOf WrongPhase = refusedWith 5
+numbersOf Granted = acceptedWith 2 0
+numbersOf (Waiting ahead) = acceptedWith 3 ahead
+numbersOf Full = acceptedWith 4 0
+numbersOf Withdrawn = acceptedWith 5 0
+numbersOf Released = acceptedWith 6 0
+numbersOf ClearingDue = acceptedWith 7 0
+numbersOf Cleared = acceptedWith 8 0
+numbersOf NotYetClear = acceptedWith 9 0
+numbersOf Passed = acceptedWith 11 0

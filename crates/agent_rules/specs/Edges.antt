@@ -8,7 +8,7 @@ use Rattle.agent_request.specs.Request.{NONE, freeRequest}
 use Rattle.agent_request.specs.declared.Request.{Request}
 use Rattle.agent_request.specs.declared.Phase.the-variants.{Asking, Waiting, Held, Owing, Clearing}
 use Rattle.agent_rules.specs.Life.{leftBy, stepSends, releaseSends, stepTakes, releaseTakes}
-use Rattle.agent_rules.specs.Answers.{numbersOf, accepted, refused}
+use Rattle.agent_rules.specs.Answers.{numbersOf, acceptedWith, refusedWith}
 use Rattle.agent_rules.specs.Examples.{word, ticket, reader, writer, requestIn}
 use Rattle.agent_rules.specs.declared.Numbers.{Numbers}
 use Rattle.agent_rules.specs.declared.Taken.{Taken}
@@ -41,33 +41,33 @@ inNoPhase = record { «record» = 3; mode = seven; phase = 77; ticket = ticket 5
 abbrev pub edges : List Edge
 edges =
     -- a reader and a writer let go
-    edge release (requestIn Held reader (ticket 0 0) NONE) (word 0 0 0 1) freeRequest (word 0 1 0 1) (accepted 6 0) ∷
-    edge release (requestIn Held writer (ticket 0 0) NONE) (word 0 0 1 0) freeRequest (word 1 0 1 0) (accepted 6 0) ∷
+    edge release (requestIn Held reader (ticket 0 0) NONE) (word 0 0 0 1) freeRequest (word 0 1 0 1) (acceptedWith 6 0) ∷
+    edge release (requestIn Held writer (ticket 0 0) NONE) (word 0 0 1 0) freeRequest (word 1 0 1 0) (acceptedWith 6 0) ∷
     -- with a clearing word the slot is kept
     edge release (requestIn Held reader (ticket 0 32767) 9) (word 0 32767 0 32768)
-    (requestIn Clearing reader (ticket 0 32767) 9) (word 0 32768 0 32768) (accepted 7 0) ∷
+    (requestIn Clearing reader (ticket 0 32767) 9) (word 0 32768 0 32768) (acceptedWith 7 0) ∷
     -- the last ticket of the own kind brings a clearing word, the last of the other kind none
     edge step (requestIn Asking writer (ticket 0 0) NONE) (word 32767 3 32767 3)
-    (requestIn Held writer (ticket 32767 3) (joinOf (word 32768 3 32768 3))) (word 32767 3 32768 3) (accepted 2 0) ∷
+    (requestIn Held writer (ticket 32767 3) (joinOf (word 32768 3 32768 3))) (word 32767 3 32768 3) (acceptedWith 2 0) ∷
     edge step (requestIn Asking reader (ticket 0 0) NONE) (word 32767 3 32767 3)
-    (requestIn Held reader (ticket 32767 3) NONE) (word 32767 3 32767 4) (accepted 2 0) ∷
+    (requestIn Held reader (ticket 32767 3) NONE) (word 32767 3 32767 4) (acceptedWith 2 0) ∷
     -- an ask on a word that no protocol left: passed, and the word keeps the 1
-    edge step (requestIn Asking reader (ticket 0 0) NONE) (word 1 0 0 0) freeRequest (word 1 0 0 1) (accepted 11 0) ∷
+    edge step (requestIn Asking reader (ticket 0 0) NONE) (word 1 0 0 0) freeRequest (word 1 0 0 1) (acceptedWith 11 0) ∷
     -- full changes the phase alone, whatever the request brought; 65,535 runs into the next counter
-    edge step (requestIn Asking reader (ticket 5 6) 9) (word 0 0 0 65535) (requestIn Owing reader (ticket 5 6) 9) (word 0 0 1 0) (accepted 4 0) ∷
+    edge step (requestIn Asking reader (ticket 5 6) 9) (word 0 0 0 65535) (requestIn Owing reader (ticket 5 6) 9) (word 0 0 1 0) (acceptedWith 4 0) ∷
     -- a ticket drops a clearing word that the request brought
-    edge step (requestIn Asking reader (ticket 5 6) 9) (word 0 0 0 0) (requestIn Held reader (ticket 0 0) NONE) (word 0 0 0 1) (accepted 2 0) ∷
+    edge step (requestIn Asking reader (ticket 5 6) 9) (word 0 0 0 0) (requestIn Held reader (ticket 0 0) NONE) (word 0 0 0 1) (acceptedWith 2 0) ∷
     -- a mode above 1 is a writer's and stays as it is
-    edge step (requestIn Asking seven (ticket 0 0) NONE) (word 0 0 0 1) (requestIn Waiting seven (ticket 0 1) NONE) (word 0 0 1 1) (accepted 3 1) ∷
-    edge step (requestIn Owing seven (ticket 5 6) 9) (word 0 0 1 0) freeRequest (word 0 0 0 0) (accepted 5 0) ∷
+    edge step (requestIn Asking seven (ticket 0 0) NONE) (word 0 0 0 1) (requestIn Waiting seven (ticket 0 1) NONE) (word 0 0 1 1) (acceptedWith 3 1) ∷
+    edge step (requestIn Owing seven (ticket 5 6) 9) (word 0 0 1 0) freeRequest (word 0 0 0 0) (acceptedWith 5 0) ∷
     -- clearing without a clearing word swaps 0 for 0
-    edge step (requestIn Clearing reader (ticket 0 0) NONE) (word 0 0 0 0) freeRequest (word 0 0 0 0) (accepted 8 0) ∷
-    edge step (requestIn Clearing reader (ticket 0 0) NONE) (word 0 0 0 5) (requestIn Clearing reader (ticket 0 0) NONE) (word 0 0 0 5) (accepted 9 0) ∷
+    edge step (requestIn Clearing reader (ticket 0 0) NONE) (word 0 0 0 0) freeRequest (word 0 0 0 0) (acceptedWith 8 0) ∷
+    edge step (requestIn Clearing reader (ticket 0 0) NONE) (word 0 0 0 5) (requestIn Clearing reader (ticket 0 0) NONE) (word 0 0 0 5) (acceptedWith 9 0) ∷
     -- refusals: a step on Held, a release on another phase, and either on a phase that is none
-    edge step (requestIn Held reader (ticket 0 0) NONE) (word 0 0 0 1) (requestIn Held reader (ticket 0 0) NONE) (word 0 0 0 1) (refused 5) ∷
-    edge release (requestIn Waiting reader (ticket 1 0) NONE) (word 0 0 1 1) (requestIn Waiting reader (ticket 1 0) NONE) (word 0 0 1 1) (refused 5) ∷
-    edge step inNoPhase (word 1 2 3 4) inNoPhase (word 1 2 3 4) (refused 5) ∷
-    edge release inNoPhase (word 1 2 3 4) inNoPhase (word 1 2 3 4) (refused 5) ∷
+    edge step (requestIn Held reader (ticket 0 0) NONE) (word 0 0 0 1) (requestIn Held reader (ticket 0 0) NONE) (word 0 0 0 1) (refusedWith 5) ∷
+    edge release (requestIn Waiting reader (ticket 1 0) NONE) (word 0 0 1 1) (requestIn Waiting reader (ticket 1 0) NONE) (word 0 0 1 1) (refusedWith 5) ∷
+    edge step inNoPhase (word 1 2 3 4) inNoPhase (word 1 2 3 4) (refusedWith 5) ∷
+    edge release inNoPhase (word 1 2 3 4) inNoPhase (word 1 2 3 4) (refusedWith 5) ∷
     []
 
 abbrev sends : Move → Request → Verb

@@ -115,8 +115,8 @@ examples =
     []
 
 -- What `Word` and `Life` define for one step of a request that finds the word f,
-abbrev pub shown : Request → Counters → Taken → Step
-shown q f t =
+abbrev pub asStep : Request → Counters → Taken → Step
+asStep q f t =
     record {
       finds = f;
       leaves = splitOf (leftBy (stepSends q) (joinOf f));
@@ -128,12 +128,12 @@ shown q f t =
     }
 
 -- and for step after step, the request being what the step before made of it.
-abbrev pub played : Request → List Counters → List Step
-played q [] = []
-played q (f ∷ fs) = shown q f (stepTakes q (joinOf f)) ∷ played (stepTakes q (joinOf f) .request) fs
+abbrev pub stepsOf : Request → List Counters → List Step
+stepsOf q [] = []
+stepsOf q (f ∷ fs) = asStep q f (stepTakes q (joinOf f)) ∷ stepsOf (stepTakes q (joinOf f) .request) fs
 
 -- The claim: every row's words after, phases, tickets, clearing words, outcomes and numbers ahead are what is defined.
 abbrev pub ExamplesHold : Type 0
 ExamplesHold =
-    map (λ (e : Example). played (e .request) (map (λ (s : Step). s .finds) (e .steps))) examples ≡
+    map (λ (e : Example). stepsOf (e .request) (map (λ (s : Step). s .finds) (e .steps))) examples ≡
     map (λ (e : Example). e .steps) examples

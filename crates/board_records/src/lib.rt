@@ -1,9 +1,8 @@
 // Which numbers are records, and a request that stays as it is, refused. It relies on types alone.
 ghost use mathlib.Core.Path.{_≡_};
-ghost use mathlib.Core.List.{[]};
 ghost use Rattle.board_rules.specs.declared.Answer.the-variants.{Refused};
 ghost use Rattle.board_rules.specs.Records.{isRecordOf};
-ghost use Rattle.board_rules.specs.Sent.{handed, visited};
+ghost use Rattle.board_rules.specs.Sent.{seenAs};
 use agent_request::Request;
 use board_rules::Answer;
 use board_rules::Seen;
@@ -17,7 +16,7 @@ pub fn is_record(r: u64, lent: usize) -> bool
 
 // The request as it was, and the number of the refusal.
 pub fn refused(q: Request, n: u8) -> Seen
-    ensures { λ r. ⌜ r ≡ handed (visited q [] (Refused n)) ⌝ }
+    ensures { λ r. ⌜ r ≡ seenAs q (Refused n) ⌝ }
 {
     Seen {
         request: q,

@@ -1,4 +1,4 @@
--- A refusal is made of the state itself, and every other answer is none; so a refused call leaves the state. And the table of numbers, computed.
+-- A refusal is made of the state itself, and every other answer is none; so a refused call leaves the state.
 -- Assumes nothing.
 use Prim.Native.Nat.{ℕ, _<_}
 use mathlib.Core.Path.{_≡_, refl}
@@ -8,9 +8,8 @@ use borrow.Author.Tests.{leb-false}
 use lib.Dec.{eqb, ltb, leb}
 use lib.ListN.{length}
 use Rattle.common.specs.Choice.{if_then_else_}
-use Rattle.agent_ticket.specs.Turn.{turnOf}
-use Rattle.agent_ceiling.specs.Ceiling.{clearingWordOf}
-use Rattle.agent_rules.specs.Life.{stepSends, releaseSends, stepTakes, releaseTakes, asked}
+use Rattle.common.proofs.Choices.{either}
+use Rattle.agent_rules.specs.Life.{stepSends, releaseSends, stepTakes, releaseTakes}
 use Rattle.agent_rules.specs.declared.Verb.{Verb}
 use Rattle.agent_rules.specs.declared.Taken.{Taken}
 use Rattle.agent_request.specs.declared.Request.{Request}
@@ -20,10 +19,9 @@ use Rattle.board_call.specs.declared.Call.{Call}
 use Rattle.board_call.specs.declared.Call.the-variants.{Open, Step, Release, Show}
 use Rattle.board_rules.specs.Records.{RECORDS, isRecord, refusalOf}
 use Rattle.board_rules.specs.declared.Answer.{Answer}
-use Rattle.board_rules.specs.declared.Answer.the-variants.{Refused, Begun, Opened, Told, Shown}
+use Rattle.board_rules.specs.declared.Answer.the-variants.{Refused, Begun, Opened, Told}
 use Rattle.board_rules.specs.Board.{State, Done, stateOf, slotAt, refused, begun, opened, sent, stepped, released, shown, played}
 use Rattle.board_rules.specs.Promises.{RefusedKeeps, RefusedBeginKeeps, OpenedIsLowest}
-use Rattle.board_rules.specs.Examples.{RowsHold}
 
 -- if a call is refused it leaves the state s
 record Keeps (s : State) (d : Done) : Type 0 where
@@ -31,10 +29,6 @@ record Keeps (s : State) (d : Done) : Type 0 where
 
 by-refusal : {s : State} {k : ℕ} → Keeps s (refused k s)
 by-refusal = record { kept = λ n e. refl }
-
-either : {s : State} {d e : Done} (x : Bool) → Keeps s d → Keeps s e → Keeps s (if x then d else e)
-either true p q = p
-either false p q = q
 
 clash : {s : State} {d : Done} → ((n : ℕ) → d .answer ≡ Refused n → ⊥) → Keeps s d
 clash f = record { kept = λ n e. absurd (f n e) }
@@ -45,31 +39,28 @@ no-told a t p n e = let z : _≡_ {A = ℕ} 0 1 = cc in omega arith
 no-opened : (k n : ℕ) → Opened k ≡ Refused n → ⊥
 no-opened k n e = let z : _≡_ {A = ℕ} 0 1 = cc in omega arith
 
-no-shown : (w n : ℕ) → Shown w ≡ Refused n → ⊥
-no-shown w n e = let z : _≡_ {A = ℕ} 0 1 = cc in omega arith
-
 no-begun : (n : ℕ) → Begun ≡ Refused n → ⊥
 no-begun n e = let z : _≡_ {A = ℕ} 0 1 = cc in omega arith
 
 sent-keeps : (s : State) (i : ℕ) (q : Request) (verb : Verb) (takes : ℕ → Taken) → Keeps s (sent i q verb takes s)
 unfolding sent
-sent-keeps s i q verb takes = either (eqb (refusalOf q verb (s .words)) 0) (clash (no-told _ _ refl)) by-refusal
+sent-keeps s i q verb takes = either (Keeps s) (eqb (refusalOf q verb (s .words)) 0) (clash (no-told _ _ refl)) by-refusal
 
 all-keep : (s : State) (c : Call) → Keeps s (played c s)
 unfolding opened stepped released shown
 all-keep s (Open r m) =
-    either (not (isRecord r (s .words))) by-refusal
-    (either (ltb 1 m) by-refusal (either (leb SLOTS (lowestFree (s .slots))) by-refusal (clash (no-opened _))))
-all-keep s (Step i) = either (leb SLOTS i) by-refusal (sent-keeps s i (slotAt s i) (stepSends (slotAt s i)) (stepTakes (slotAt s i)))
-all-keep s (Release i) = either (leb SLOTS i) by-refusal (sent-keeps s i (slotAt s i) (releaseSends (slotAt s i)) (releaseTakes (slotAt s i)))
-all-keep s (Show r) = either (isRecord r (s .words)) (clash (no-shown _)) by-refusal
+    either (Keeps s) (not (isRecord r (s .words))) by-refusal
+    (either (Keeps s) (ltb 1 m) by-refusal (either (Keeps s) (leb SLOTS (lowestFree (s .slots))) by-refusal (clash (no-opened _))))
+all-keep s (Step i) = either (Keeps s) (leb SLOTS i) by-refusal (sent-keeps s i (slotAt s i) (stepSends (slotAt s i)) (stepTakes (slotAt s i)))
+all-keep s (Release i) = either (Keeps s) (leb SLOTS i) by-refusal (sent-keeps s i (slotAt s i) (releaseSends (slotAt s i)) (releaseTakes (slotAt s i)))
+all-keep s (Show r) = record { kept = λ n e. refl }
 
 pub refused-keeps : RefusedKeeps
 refused-keeps c s n e = all-keep s c .kept n e
 
 begin-keeps : (s : State) → Keeps s (begun s)
 unfolding begun
-begin-keeps s = either (eqb (length (s .words)) 0 || ltb RECORDS (length (s .words))) by-refusal (clash no-begun)
+begin-keeps s = either (Keeps s) (eqb (length (s .words)) 0 || ltb RECORDS (length (s .words))) by-refusal (clash no-begun)
 
 pub refused-begin-keeps : RefusedBeginKeeps
 refused-begin-keeps s n e = begin-keeps s .kept n e
@@ -94,7 +85,3 @@ opened-is-lowest r m s k long e =
     let at : k ≡ lowestFree (s .slots) = same-slot (lowestFree (s .slots)) k (w .1) in
     let below : lowestFree (s .slots) < length (s .slots) = let h = leb-false SLOTS (lowestFree (s .slots)) (w .0) in omega arith in
     (rw at (lowest-is-free (s .slots) below), λ j l. lower-are-used (s .slots) j (omega arith))
-
-pub rows-hold : RowsHold
-unfolding opened sent stepped released shown begun refusalOf lowestFree stepSends releaseSends stepTakes releaseTakes turnOf clearingWordOf asked
-rows-hold = (refl, refl)

@@ -2,7 +2,7 @@
 -- none is free it aims at one in use.
 -- Assumes nothing.
 use Prim.Native.Nat.{ℕ, _<_, _%_}
-use mathlib.Core.Path.{_≡_, refl, ap, sym}
+use mathlib.Core.Path.{_≡_, refl, ap, sym, subst, _∙_}
 use mathlib.Core.Bool.{Bool, true, false}
 use mathlib.Core.List.{List}
 use native.Mathlib.Omega.{arith}
@@ -17,18 +17,21 @@ use Rattle.agent_rules.specs.Life.{stepSends, releaseSends, stepTakes, releaseT
 use Rattle.agent_rules.specs.declared.Verb.{Verb}
 use Rattle.agent_rules.specs.declared.Taken.{Taken}
 use Rattle.board_slots.specs.Slots.{SLOTS, lowestFree}
-use Rattle.board_slots.specs.Map.{lowestZero}
+use Rattle.board_slots.specs.Map.{lowestZero, mapOf}
+use Rattle.board_slots.specs.declared.Board.{Board}
 use Rattle.board_slots.proofs.Promises.{lowest-is-free, lower-are-used, map-finds-lowest}
 use Rattle.board_call.specs.declared.Call.{Call}
 use Rattle.board_call.specs.declared.Call.the-variants.{Open, Step, Release, Show}
 use Rattle.board_rules.specs.Records.{isRecord, refusalOf}
 use Rattle.board_rules.specs.Sent.{visited, sentVisit}
-use Rattle.board_rules.specs.Visit.{aimOf, withinBoard, openVisit, showVisit, namedVisit}
+use Rattle.board_rules.specs.Visit.{aimOf, withinBoard, openVisit, showVisit, namedVisit, visitOf}
+use Rattle.board_rules.specs.Leaves.{Leaves, lentTo}
+use Rattle.board_rules.specs.declared.Played.{Played}
 use Rattle.board_rules.specs.declared.Answer.{Answer}
 use Rattle.board_rules.specs.declared.Answer.the-variants.{Refused}
 use Rattle.board_rules.specs.Visit.{stored}
 use Rattle.board_rules.specs.Promises.{VisitIsPlayed}
-use Rattle.board_rules.specs.Board.{State, refused, sent, opened, stepped, released, shown, slotAt}
+use Rattle.board_rules.specs.Board.{State, Done, refused, sent, opened, stepped, released, shown, slotAt, played}
 
 -- a refused visit writes back what stood there
 back : (s : State) (i : ℕ) (a : Answer) → record { slots = s .slots; words = s .words; answer = a } ≡ stored s i (visited (slotAt s i) (s .words) a)
@@ -82,10 +85,9 @@ unfolding namedVisit
 named-stored s n verb takes true e = rw e (back s 0 (Refused 1))
 named-stored s n verb takes false e = rw e (sent-stored s n (verb (slotAt s n)) (takes (slotAt s n)))
 
-show-stored : (s : State) (r : ℕ) (x : Bool) → isRecord r (s .words) ≡ x → shown r s ≡ stored s 0 (showVisit r (slotAt s 0) (s .words))
+show-stored : (s : State) (r : ℕ) → shown r s ≡ stored s 0 (showVisit r (slotAt s 0) (s .words))
 unfolding shown showVisit
-show-stored s r true e = rw e (back s 0 _)
-show-stored s r false e = rw e (back s 0 (Refused 2))
+show-stored s r = back s 0 _
 
 pub visit-is-played : VisitIsPlayed
 unfolding aimOf stepped released
@@ -95,7 +97,7 @@ visit-is-played (Open r m) s long =
     (open-stored s r m (withinBoard k) (isRecord r (s .words)) (ltb 1 m) (leb SLOTS k) refl refl refl (aimed-use (s .slots) long (leb SLOTS k) refl) (aimed-at k (leb SLOTS k) refl))
 visit-is-played (Step n) s long = named-stored s n stepSends stepTakes (leb SLOTS n) refl
 visit-is-played (Release n) s long = named-stored s n releaseSends releaseTakes (leb SLOTS n) refl
-visit-is-played (Show r) s long = show-stored s r (isRecord r (s .words)) refl
+visit-is-played (Show r) s long = show-stored s r
 
 -- a call visits a slot of the board
 within-small : (i : ℕ) (x : Bool) → leb SLOTS i ≡ x → withinBoard i < SLOTS
@@ -108,3 +110,16 @@ aim-small (Open r n) m = within-small (lowestZero m) (leb SLOTS (lowestZero m)) 
 aim-small (Step i) m = within-small i (leb SLOTS i) refl
 aim-small (Release i) m = within-small i (leb SLOTS i) refl
 aim-small (Show r) m = omega arith
+
+-- what a visit of the aimed slot leaves of a board by value is what the call leaves
+pub by-visit :
+    (c : Call) (b : Board) (ws ws′ : List ℕ) (i : ℕ) (r : Played) →
+    length (b .slots) ≡ SLOTS →
+    i ≡ aimOf c (mapOf (b .slots)) →
+    Leaves (stored (lentTo b ws) i (visitOf c i (slotAt (lentTo b ws) i) ws)) r ws′ →
+    Leaves (played c (lentTo b ws)) r ws′
+by-visit c b ws ws′ i r long aim l =
+    let s = lentTo b ws in
+    let e : played c s ≡ stored s i (visitOf c i (slotAt s i) ws) =
+    visit-is-played c s long ∙ ap (λ (j : ℕ). stored s j (visitOf c j (slotAt s j) ws)) (sym aim) in
+    subst (λ (d : Done). Leaves d r ws′) (sym e) l

@@ -30,11 +30,11 @@ abbrev pub saidOf : Call → Answer → Said
 saidOf c a = saidWith (namedSlot c) a
 
 -- Rule 7.4: A step and a release send a verb where they are accepted.
-abbrev pub sends : Call → Bool
-sends (Open r m) = false
-sends (Step i) = true
-sends (Release i) = true
-sends (Show r) = false
+abbrev pub sendsVerb : Call → Bool
+sendsVerb (Open r m) = false
+sendsVerb (Step i) = true
+sendsVerb (Release i) = true
+sendsVerb (Show r) = false
 
 unfoldable pub verbsOf : Call → Answer → ℕ
-verbsOf c a = if sends c && eqb (saidOf c a .number) 0 then 1 else 0
+verbsOf c a = if sendsVerb c && eqb (saidOf c a .number) 0 then 1 else 0

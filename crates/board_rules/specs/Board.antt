@@ -80,11 +80,12 @@ unfoldable pub released : ℕ → State → Done
 released i s = if leb SLOTS i then refused 1 s else sent i (slotAt s i) (releaseSends (slotAt s i)) (releaseTakes (slotAt s i)) s
 
 -- Rules 4.7 and 5.2: Show: 2, else the word.
+unfoldable pub shownOf : ℕ → List ℕ → Answer
+shownOf r words = if isRecord r words then Shown (getD words r 0) else Refused 2
+
+-- It changes nothing.
 unfoldable pub shown : ℕ → State → Done
-shown r s =
-    if isRecord r (s .words)
-    then record { slots = s .slots; words = s .words; answer = Shown (getD (s .words) r 0) }
-    else refused 2 s
+shown r s = record { slots = s .slots; words = s .words; answer = shownOf r (s .words) }
 
 -- Any call.
 abbrev pub played : Call → State → Done

@@ -36,6 +36,10 @@ fresh ws = board freshSlots ws
 abbrev inPhase : Phase → ℕ → Request
 inPhase p r = record { «record» = r; mode = 0; phase = phaseNumber p; ticket = record { 0 = record { 0 = 0 }; 1 = record { 0 = 0 } }; clearing = 0 }
 
+-- a Held request with a clearing word
+abbrev lastHeld : Request
+lastHeld = record { «record» = 0; mode = 0; phase = phaseNumber Held; ticket = record { 0 = record { 0 = 0 }; 1 = record { 0 = 32767 } }; clearing = 140737488388096 }
+
 -- a word with one reader's ticket drawn and not released
 abbrev asked : ℕ
 asked = 1
@@ -73,6 +77,7 @@ rows =
     row (board (inPhase Asking 0 ∷ []) (32768 ∷ [])) (Step 0) (said 0 4 0 0) ∷
     row (board (inPhase Owing 0 ∷ []) (32769 ∷ [])) (Step 0) (said 0 5 0 0) ∷
     row (board (inPhase Held 0 ∷ []) (asked ∷ [])) (Release 0) (said 0 6 0 0) ∷
+    row (board (lastHeld ∷ []) (0 ∷ [])) (Release 0) (said 0 7 0 0) ∷
     row (board (inPhase Clearing 0 ∷ []) (0 ∷ [])) (Step 0) (said 0 8 0 0) ∷
     row (board (inPhase Clearing 0 ∷ []) (asked ∷ [])) (Step 0) (said 0 9 0 0) ∷
     row (fresh (0 ∷ 281474976776192 ∷ [])) (Show 1) (said 0 10 0 281474976776192) ∷

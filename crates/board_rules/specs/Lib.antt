@@ -4,5 +4,6 @@ pub mod Sent
 pub mod Board
 pub mod Visit
 pub mod Leaves
+pub mod Table
 pub mod Promises
 pub mod Examples

@@ -1,4 +1,5 @@
--- A verb sent for a request, and its result taken.
+-- A mirror of a part of `Board`: a verb sent for one request, and its result taken, without the table of slots. Nothing here needs belief:
+-- `VisitIsPlayed` (Promises) says that visiting a slot so is playing the call.
 use Prim.Native.Nat.{ℕ}
 use mathlib.Core.List.{List}
 use lib.Dec.{eqb}
@@ -23,8 +24,11 @@ abbrev pub visited : Request → List ℕ → Answer → Visited
 visited q ws a = record { request = q; words = ws; answer = a }
 
 -- The part of it that is handed back; the words are lent.
+abbrev pub seenAs : Request → Answer → Seen
+seenAs q a = record { request = q; answer = a }
+
 abbrev pub handed : Visited → Seen
-handed v = record { request = v .request; answer = v .answer }
+handed v = seenAs (v .request) (v .answer)
 
 unfoldable pub sentVisit : Request → Verb → (ℕ → Taken) → List ℕ → Visited
 sentVisit q verb takes ws =

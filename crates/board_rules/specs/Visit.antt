@@ -1,10 +1,10 @@
--- A call as a visit of one slot: which slot, and what becomes of its request, of the words, and what is answered. A run plays its records
--- so; `VisitIsPlayed` says that it is the same as playing the call.
+-- A mirror of `Board`: a call as a visit of one slot: which slot, and what becomes of its request, of the words, and what is answered. A run plays
+-- its records so. Nothing here needs belief: `VisitIsPlayed` (Promises) says that it is the same as playing the call.
 use Prim.Native.Nat.{ℕ, _%_}
 use mathlib.Core.Bool.{not}
 use mathlib.Core.List.{List}
 use lib.Dec.{ltb, leb}
-use lib.ListN.{getD, set}
+use lib.ListN.{set}
 use Rattle.common.specs.Choice.{if_then_else_}
 use Rattle.agent_request.specs.Request.{inUse, openedRequest}
 use Rattle.agent_request.specs.declared.Request.{Request}
@@ -13,10 +13,10 @@ use Rattle.board_slots.specs.Slots.{SLOTS}
 use Rattle.board_slots.specs.Map.{lowestZero}
 use Rattle.board_call.specs.declared.Call.{Call}
 use Rattle.board_call.specs.declared.Call.the-variants.{Open, Step, Release, Show}
-use Rattle.board_rules.specs.declared.Answer.the-variants.{Refused, Opened, Shown}
+use Rattle.board_rules.specs.declared.Answer.the-variants.{Refused, Opened}
 use Rattle.board_rules.specs.Records.{isRecord}
 use Rattle.board_rules.specs.Sent.{Visited, visited, sentVisit}
-use Rattle.board_rules.specs.Board.{State, Done}
+use Rattle.board_rules.specs.Board.{State, Done, shownOf}
 
 -- A slot number as it stands, and slot 0 for one above 255.
 abbrev pub withinBoard : ℕ → ℕ
@@ -36,7 +36,7 @@ openVisit r m i q ws =
     if inUse q then visited q ws (Refused 6) else visited (openedRequest r m) ws (Opened (i % 256))
 
 unfoldable pub showVisit : ℕ → Request → List ℕ → Visited
-showVisit r q ws = if isRecord r ws then visited q ws (Shown (getD ws r 0)) else visited q ws (Refused 2)
+showVisit r q ws = visited q ws (shownOf r ws)
 
 unfoldable pub namedVisit : ℕ → Request → List ℕ → Visited → Visited
 namedVisit i q ws v = if leb SLOTS i then visited q ws (Refused 1) else v

@@ -1,3 +1,4 @@
 pub mod Bits
 pub mod Maps
 pub mod Promises
+pub mod Used

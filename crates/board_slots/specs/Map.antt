@@ -1,4 +1,5 @@
--- The map of four 64-bit numbers: a one for each slot in use, slot 0 lowest in the first of them.
+-- A mirror of `Slots`: the map of four 64-bit numbers, a one for each slot in use, slot 0 lowest in the first of them. Nothing here needs belief:
+-- `MapFindsLowest`, `MapCountsUsed` and `MarkFollowsStore` (Promises) say that it tells the lowest free slot and the slots in use, and stays so.
 use Prim.Native.Nat.{ℕ, zero, _+_, _*_, _-_, _^_, _/_, _%_}
 use mathlib.Core.List.{List, [], _∷_}
 use lib.Count.{trailingZeros, ones}

@@ -1,15 +1,14 @@
 // What can be seen of a board without a change: the word of a record, and how many slots are in use. It relies on the contracts of
 // `board_map_kept` and `board_map_read` alone.
 ghost use mathlib.Core.Path.{_≡_};
-ghost use mathlib.Core.List.{[]};
 ghost use Rattle.board_slots.specs.Slots.{usedSlots};
-ghost use Rattle.board_rules.specs.Board.{shown};
+ghost use Rattle.board_rules.specs.Board.{shownOf};
 use board_rules::Answer;
 use board_slots::Board;
 
 // The word of a record. It looks at no slot.
 pub fn show(words: &[u64], record: u64) -> Answer
-    ensures { λ r. ⌜ r ≡ shown «record» (record { slots = []; words = now (words .entry) }) .answer ⌝ }
+    ensures { λ r. ⌜ r ≡ shownOf «record» (now (words .entry)) ⌝ }
 {
     if 4096 <= record {
         return Answer::Refused(2);

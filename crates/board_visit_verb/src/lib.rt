@@ -6,7 +6,7 @@ ghost use lib.ListN.{getD, set};
 ghost use Rattle.agent_rules.specs.Life.{leftBy, stepSends, releaseSends, stepTakes, releaseTakes};
 ghost use Rattle.board_rules.specs.declared.Answer.the-variants.{Told};
 ghost use Rattle.board_rules.specs.Records.{isNothing, refusalOf};
-ghost use Rattle.board_rules.specs.Sent.{handed, visited, sentVisit};
+ghost use Rattle.board_rules.specs.Sent.{seenAs, handed, sentVisit};
 use agent_request::Request;
 use agent_rules::Verb;
 use board_rules::Answer;
@@ -76,7 +76,7 @@ fn go_out(q: Request, v: Verb, words: &mut [u64]) -> Went
 }
 
 fn told(t: agent_rules::Taken) -> Seen
-    ensures { λ r. ⌜ r ≡ handed (visited (t .request) [] (Told (t .answer))) ⌝ }
+    ensures { λ r. ⌜ r ≡ seenAs (t .request) (Told (t .answer)) ⌝ }
 {
     let request = t.request;
     let answer = t.answer;

@@ -27,7 +27,7 @@ use Rattle.board_call.specs.declared.Call.the-variants.{Open, Step, Release, Sh
 use Rattle.board_rules.specs.Records.{isRecord, refusalOf}
 use Rattle.board_rules.specs.Sent.{visited, sentVisit}
 use Rattle.board_rules.specs.Visit.{aimOf, visitOf, namedVisit}
-use Rattle.board_visit_waiting.specs.Waits.{isWaiting, numberAhead, stillAhead, steppedSlot}
+use Rattle.board_visit_waiting.specs.Waits.{isWaiting, numberAhead, stillAhead, WaitingIsTheVisit}
 use Rattle.board_rules.specs.declared.Answer.the-variants.{Told}
 use Rattle.board_rules.proofs.Sent.{accepted-visit}
 
@@ -86,13 +86,7 @@ within-named : (b : Bool) (j k : ℕ) → (if b then SLOTS else j) ≡ k → k <
 within-named true j k e small = absurd (omega arith)
 within-named false j k e small = (refl, e)
 
-pub waits-visit :
-    (c : Call) (m : List ℕ) (slots : List Request) (ws : List ℕ) (k n : ℕ) →
-    steppedSlot c ≡ k →
-    k < SLOTS →
-    stillAhead (getD slots k freeRequest) ws ≡ n →
-    (n ≡ 0 → ⊥) →
-    visitOf c (aimOf c m) (getD slots (aimOf c m) freeRequest) ws ≡ visited (getD slots (aimOf c m) freeRequest) ws (Told (agent.Waiting n))
+pub waits-visit : WaitingIsTheVisit
 unfolding aimOf namedVisit
 waits-visit (Open r j) m slots ws k n e small h ne = absurd (omega arith)
 waits-visit (Step j) m slots ws k n e small h ne =

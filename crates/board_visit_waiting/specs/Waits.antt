@@ -1,6 +1,7 @@
--- The step of a request that waits and goes on waiting: how many are ahead of it. It is the call that leaves the request and the words as they
--- are, and `waits-visit` in proofs/ says so.
-use Prim.Native.Nat.{ℕ}
+-- A mirror of a part of `Visit`: the step of a request that waits and goes on waiting, and how many are ahead of it. Nothing here needs belief:
+-- `WaitingIsTheVisit`, at the end, says that such a step is the visit, and leaves the request and the words.
+use Prim.Native.Nat.{ℕ, _<_}
+use mathlib.Core.Path.{_≡_}
 use mathlib.Core.Bool.{Bool, true, false, not}
 use mathlib.Core.List.{List}
 use lib.Dec.{leb}
@@ -10,14 +11,18 @@ use Rattle.word_layout.specs.Word.{splitOf}
 use Rattle.agent_ticket.specs.Turn.{turnOf}
 use Rattle.agent_ticket.specs.declared.Turn.{Turn}
 use Rattle.agent_ticket.specs.declared.Turn.the-variants.{Passed, Granted, Ahead}
-use Rattle.agent_request.specs.Request.{phaseOf, modeOf}
+use Rattle.agent_request.specs.Request.{phaseOf, modeOf, freeRequest}
 use Rattle.agent_request.specs.declared.Request.{Request}
 use Rattle.agent_request.specs.declared.Phase.{Phase}
 use Rattle.agent_request.specs.declared.Phase.the-variants.{Free, Asking, Waiting, Held, Owing, Clearing}
 use Rattle.board_slots.specs.Slots.{SLOTS}
 use Rattle.board_call.specs.declared.Call.{Call}
 use Rattle.board_call.specs.declared.Call.the-variants.{Open, Step, Release, Show}
+use Rattle.agent_rules.specs.declared.Answer.the-variants as tells
 use Rattle.board_rules.specs.Records.{isRecord}
+use Rattle.board_rules.specs.Sent.{visited}
+use Rattle.board_rules.specs.Visit.{aimOf, visitOf}
+use Rattle.board_rules.specs.declared.Answer.the-variants.{Told}
 
 abbrev pub isWaiting : Phase → Bool
 isWaiting Free = false
@@ -44,3 +49,13 @@ steppedSlot (Open r m) = SLOTS
 steppedSlot (Step n) = if leb SLOTS n then SLOTS else n
 steppedSlot (Release n) = SLOTS
 steppedSlot (Show r) = SLOTS
+
+-- A call that steps a slot whose request goes on waiting with n ahead visits that slot, whatever the map, and leaves request and words.
+abbrev pub WaitingIsTheVisit : Type 0
+WaitingIsTheVisit =
+    (c : Call) (m : List ℕ) (slots : List Request) (ws : List ℕ) (k n : ℕ) →
+    steppedSlot c ≡ k →
+    k < SLOTS →
+    stillAhead (getD slots k freeRequest) ws ≡ n →
+    (n ≡ 0 → ⊥) →
+    visitOf c (aimOf c m) (getD slots (aimOf c m) freeRequest) ws ≡ visited (getD slots (aimOf c m) freeRequest) ws (Told (tells.Waiting n))

@@ -1,1 +1,3 @@
 pub mod OnlyOne
+pub mod Choices
+pub mod Tables

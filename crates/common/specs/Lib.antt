@@ -1,2 +1,3 @@
 pub mod Choice
 pub mod Determined
+pub mod Table

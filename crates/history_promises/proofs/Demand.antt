@@ -1,4 +1,4 @@
--- Demand 3 of every board that is tied to its ledger, and so after every sequence of calls.
+-- Demand 3 of every board that is tied to its ledger, and so after every sequence of calls. Seats.antt has why the ledger is read rightly.
 -- Assumes nothing.
 use Prim.Native.Nat.{ℕ, _<_, _≤_}
 use mathlib.Core.Path.{_≡_, refl, ap, sym, subst, _∙_}
@@ -7,11 +7,12 @@ use mathlib.Core.Logic.{_↔_, _⊎_, inl, inr, ⊎-elim}
 use mathlib.Core.List.{List, [], _∷_, _++_}
 use native.Mathlib.Nat.{eq-or-lt-of-le}
 use native.Mathlib.Omega.{arith}
-use borrow.Author.Tests.{leb-true, leb-false, ltb-true, ltb-false, eqb-true, eq-eqb}
+use borrow.Author.Tests.{leb-false, ltb-true, ltb-false, eqb-true, eq-eqb}
 use lib.Dec.{eqb, leb, ltb}
 use lib.ListN.{length, take}
 use lib.Seq.{take-append-seam, take-length}
 use Rattle.common.specs.Choice.{if_then_else_}
+use Rattle.common.proofs.Choices.{either-by}
 use Rattle.agent_ticket.specs.declared.Mode.{Mode}
 use Rattle.agent_ticket.specs.declared.Mode.the-variants.{Reader, Writer}
 use Rattle.agent_rules.specs.declared.Answer.{Answer as Tells}
@@ -22,18 +23,19 @@ use Rattle.board_call.specs.declared.Call.the-variants.{Open, Step, Release, Sh
 use Rattle.board_rules.specs.Records.{isRecord}
 use Rattle.board_rules.specs.declared.Answer.{Answer}
 use Rattle.board_rules.specs.declared.Answer.the-variants.{Refused, Begun, Opened, Told, Shown}
-use Rattle.board_rules.specs.Board.{State, Done, opened, stepped, released, shown, played}
+use Rattle.board_rules.specs.Board.{State, Done, opened, stepped, released, shown, shownOf, played}
 use Rattle.history_promises.specs.Tickets.{Given, conflicts, ticketAt, sameKind, EarlierReleased, AllReleased}
 use Rattle.history_promises.specs.Ledger.{Stage, Ledger, mine}
 use Rattle.history_promises.specs.Ledger.Stage.{Nobody, Asks, Waits, Holds, Owes, Clears}
-use Rattle.history_promises.specs.Promises.{WriterHoldsAlone, DrawnIsGrantedExactly, WaitingIsGrantedExactly, NonePassed, FullExactly, NoneOwed, ClearedOnly, ClearedThen, CountersStaySmall, Demand, Demand3}
+use Rattle.history_promises.specs.Promises.{OpenTells, OpensWhereNobodySits, WriterHoldsAlone, DrawnIsGrantedExactly, WaitingIsGrantedExactly, NonePassed, FullExactly, NoneOwed, ClearedOnly, ClearedThen, CountersStaySmall, Demand, Demand3}
 use Rattle.history_promises.proofs.Counts.{clash, true-or-false, below-none, none-below}
 use Rattle.history_promises.proofs.Turns.{aheadNow, ahead-earlier, earlier-ahead}
 use Rattle.history_promises.proofs.Words.{topped, topped-or, or-topped, clearingFor, wordAtRest, at-rest, rests, counters-small}
-use Rattle.history_promises.proofs.Tied.{Facts, isNobody, isOwing, owesOn, Tied, few-owed, same-or-not}
+use Rattle.history_promises.proofs.Tied.{Facts, isOwing, owesOn, Tied, few-owed, same-or-not}
 use Rattle.history_promises.proofs.Sent.{went, step-nobody, step-holds, step-owes, step-clears, step-waits, step-asks-full, step-asks-turn, release-nobody, release-asks, release-waits, release-owes, release-clears, release-holds}
-use Rattle.history_promises.proofs.Moves.{wordNow, clearing-last, facts-at, owes-here}
-use Rattle.history_promises.proofs.Kept.{either, keeps-at, lent-at, tied}
+use Rattle.history_promises.proofs.Moves.{wordNow, clearing-last, owes-here}
+use Rattle.history_promises.proofs.Kept.{nobody-there, keeps-at, tied}
+use Rattle.history_promises.proofs.Seats.{in-board, lent-to, facts-of, seat-has-its-ticket, ticket-has-its-seat, told-by-stage}
 
 -- an answer that one way gives, and the other does not
 picked : (x : Bool) (d e : Done) (a : Answer) → d .answer ≡ a → (e .answer ≡ a → ⊥) → ((if x then d else e) .answer ≡ a) ↔ (x ≡ true)
@@ -73,16 +75,6 @@ isCleared tells.NotYetClear = false
 isCleared tells.Passed = false
 
 module _ {n : ℕ} {s : State} {L : Ledger} (T : Tied n s L) where
-  -- a slot at a stage is one of the 256
-  pub in-board : (i : ℕ) (g : Stage) → L .seats i .stage ≡ g → isNobody g ≡ false → i < SLOTS
-  in-board i g e f = ⊎-elim (λ h. clash (isNobody g) (sym (ap isNobody e) ∙ ap isNobody (T .beyond i (leb-true SLOTS i h))) f) (λ h. leb-false SLOTS i h) (true-or-false (leb SLOTS i))
-
-  pub lent-to : (i : ℕ) (g : Stage) → L .seats i .stage ≡ g → isNobody g ≡ false → L .seats i .about < n
-  lent-to i g e f = lent-at T i (in-board i g e f) g e f
-
-  pub facts-of : (i : ℕ) (g : Stage) → L .seats i .stage ≡ g → isNobody g ≡ false → Facts g (L .seats i) (mine L i) i
-  facts-of i g e f = facts-at T i (in-board i g e f) (lent-to i g e f) g e
-
   writer-conflicts : (k : Mode) → conflicts Writer k ≡ true
   writer-conflicts Reader = refl
   writer-conflicts Writer = refl
@@ -93,8 +85,8 @@ module _ {n : ℕ} {s : State} {L : Ledger} (T : Tied n s L) where
 
   alone : WriterHoldsAlone L
   alone i j e w f a =
-      let x = facts-of i Holds e refl in
-      let y : Facts Holds (L .seats j) (mine L i) j = subst (λ (r : ℕ). Facts Holds (L .seats j) (L .tickets r) j) a (facts-of j Holds f refl) in
+      let x = facts-of T i Holds e refl in
+      let y : Facts Holds (L .seats j) (mine L i) j = subst (λ (r : ℕ). Facts Holds (L .seats j) (L .tickets r) j) a (facts-of T j Holds f refl) in
       ⊎-elim
       (λ h. clash (ticketAt (mine L i) (L .seats i .place) .released) (y .1 (L .seats i .place) (ltb-true _ _ h) (rw (x .0 .kind, w) (writer-conflicts (L .seats j .kind)))) (x .0 .open-now))
       (λ h.
@@ -117,9 +109,9 @@ module _ {n : ℕ} {s : State} {L : Ledger} (T : Tied n s L) where
 
   waiting-granted : WaitingIsGrantedExactly L (λ c. played c s .answer)
   waiting-granted i e =
-      let here = in-board i Waits e refl in
-      let lent = lent-to i Waits e refl in
-      let own = facts-of i Waits e refl in
+      let here = in-board T i Waits e refl in
+      let lent = lent-to T i Waits e refl in
+      let own = facts-of T i Waits e refl in
       let eq = ap (λ (d : Done). d .answer) (step-waits s i here (L .seats i) (mine L i) (omega (arith, T .words-long)) (omega (arith, T .most)) (T .agrees (L .seats i .about) lent) (keeps-at T i here Waits e) own) in
       let x = ahead-exactly (L .seats i .kind) (mine L i) (L .seats i .place) (omega (arith, own .inside)) in
       let p = picked (eqb (aheadNow (L .seats i .kind) (mine L i) (L .seats i .place)) 0) _ _ (Told tells.Granted) refl (no-waiting _) in
@@ -128,8 +120,8 @@ module _ {n : ℕ} {s : State} {L : Ledger} (T : Tied n s L) where
   -- a slot that asks, at the ceiling and below it
   asks-full : (i : ℕ) → L .seats i .stage ≡ Asks → topped (mine L i) ≡ true → played (Step i) s .answer ≡ Told tells.Full
   asks-full i e top =
-      let here = in-board i Asks e refl in
-      let lent = lent-to i Asks e refl in
+      let here = in-board T i Asks e refl in
+      let lent = lent-to T i Asks e refl in
       ap (λ (d : Done). d .answer) (step-asks-full s i here (L .seats i) (mine L i) (omega (arith, T .words-long)) (omega (arith, T .most)) (T .agrees (L .seats i .about) lent) (keeps-at T i here Asks e) top)
 
   abbrev longer : ℕ → List Given
@@ -139,8 +131,8 @@ module _ {n : ℕ} {s : State} {L : Ledger} (T : Tied n s L) where
       (i : ℕ) → L .seats i .stage ≡ Asks → topped (mine L i) ≡ false →
       (played (Step i) s .answer ≡ Told tells.Full → ⊥) × ((played (Step i) s .answer ≡ Told tells.Granted) ↔ (eqb (aheadNow (L .seats i .kind) (longer i) (length (mine L i))) 0 ≡ true))
   asks-turn i e low =
-      let here = in-board i Asks e refl in
-      let lent = lent-to i Asks e refl in
+      let here = in-board T i Asks e refl in
+      let lent = lent-to T i Asks e refl in
       let eq = ap (λ (d : Done). d .answer) (step-asks-turn s i here (L .seats i) (mine L i) (omega (arith, T .words-long)) (omega (arith, T .most)) (T .agrees (L .seats i .about) lent) low (keeps-at T i here Asks e)) in
       let x = eqb (aheadNow (L .seats i .kind) (longer i) (length (mine L i))) 0 in
       let p = picked x _ _ (Told tells.Granted) refl (no-waiting _) in
@@ -163,7 +155,7 @@ module _ {n : ℕ} {s : State} {L : Ledger} (T : Tied n s L) where
 
   full : FullExactly L (λ c. played c s .answer)
   full i e =
-      let lent = lent-to i Asks e refl in
+      let lent = lent-to T i Asks e refl in
       let a = T .agrees (L .seats i .about) lent in (
         (λ h. ⊎-elim (λ top. ⊎-elim (λ w. inl (omega (arith, a .cap Writer))) (λ r. inr (omega (arith, a .cap Reader))) (topped-or (mine L i) top)) (λ low. absurd (asks-turn i e low .0 h)) (true-or-false (topped (mine L i)))),
         (λ h. asks-full i e (⊎-elim (λ w. or-topped (mine L i) Writer (omega arith)) (λ r. or-topped (mine L i) Reader (omega arith)) h)),
@@ -181,20 +173,20 @@ module _ {n : ℕ} {s : State} {L : Ledger} (T : Tied n s L) where
     step-not i here Nobody e c = subst Not (sym (step-nobody s i here (keeps-at T i here Nobody e))) refl
     step-not i here Holds e c = subst Not (sym (step-holds s i here (L .seats i) (mine L i) (keeps-at T i here Holds e))) refl
     step-not i here Owes e c =
-        let lent = lent-to i Owes e refl in
+        let lent = lent-to T i Owes e refl in
         subst Not (sym (step-owes s i here (L .seats i) (mine L i) (omega (arith, T .words-long)) (omega (arith, T .most)) (keeps-at T i here Owes e))) withdrawn
     step-not i here Waits e c =
-        let lent = lent-to i Waits e refl in
-        subst Not (sym (step-waits s i here (L .seats i) (mine L i) (omega (arith, T .words-long)) (omega (arith, T .most)) (T .agrees (L .seats i .about) lent) (keeps-at T i here Waits e) (facts-of i Waits e refl)))
-        (either Not (eqb (aheadNow (L .seats i .kind) (mine L i) (L .seats i .place)) 0) (λ z. granted) (λ z. waiting _))
+        let lent = lent-to T i Waits e refl in
+        subst Not (sym (step-waits s i here (L .seats i) (mine L i) (omega (arith, T .words-long)) (omega (arith, T .most)) (T .agrees (L .seats i .about) lent) (keeps-at T i here Waits e) (facts-of T i Waits e refl)))
+        (either-by Not (eqb (aheadNow (L .seats i .kind) (mine L i) (L .seats i .place)) 0) (λ z. granted) (λ z. waiting _))
     step-not i here Asks e c =
-        let lent = lent-to i Asks e refl in
+        let lent = lent-to T i Asks e refl in
         let inside : L .seats i .about < length (s .words) = omega (arith, T .words-long) in
         let few : L .seats i .about < 4096 = omega (arith, T .most) in
         let a = T .agrees (L .seats i .about) lent in
         ⊎-elim
         (λ top. subst Not (sym (step-asks-full s i here (L .seats i) (mine L i) inside few a (keeps-at T i here Asks e) top)) full-told)
-        (λ low. subst Not (sym (step-asks-turn s i here (L .seats i) (mine L i) inside few a low (keeps-at T i here Asks e))) (either Not (eqb (aheadNow (L .seats i .kind) (longer i) (length (mine L i))) 0) (λ z. granted) (λ z. waiting _)))
+        (λ low. subst Not (sym (step-asks-turn s i here (L .seats i) (mine L i) inside few a low (keeps-at T i here Asks e))) (either-by Not (eqb (aheadNow (L .seats i .kind) (longer i) (length (mine L i))) 0) (λ z. granted) (λ z. waiting _)))
         (true-or-false (topped (mine L i)))
     step-not i here Clears e c = c refl
 
@@ -209,9 +201,9 @@ module _ {n : ℕ} {s : State} {L : Ledger} (T : Tied n s L) where
   -- a step of a slot that clears
   clears-told : (i : ℕ) → L .seats i .stage ≡ Clears → stepped i s .answer ≡ (if eqb (wordNow s L i) (wordAtRest (mine L i)) then Told tells.Cleared else Told tells.NotYetClear)
   clears-told i e =
-      let here = in-board i Clears e refl in
-      let lent = lent-to i Clears e refl in
-      let closing = facts-of i Clears e refl in
+      let here = in-board T i Clears e refl in
+      let lent = lent-to T i Clears e refl in
+      let closing = facts-of T i Clears e refl in
       let rest = clearing-last (mine L i) (L .seats i .place) (closing .final) (closing .top) in
       ap (λ (d : Done). d .answer) (step-clears s i here (L .seats i) (mine L i) (omega (arith, T .words-long)) (omega (arith, T .most)) (keeps-at T i here Clears e) rest) ∙
       by (eqb (wordNow s L i) (wordAtRest (mine L i))) _ _
@@ -232,25 +224,25 @@ module _ {n : ℕ} {s : State} {L : Ledger} (T : Tied n s L) where
       at h Owes e = subst (λ (d : Done). isTold isPassed (d .answer) ≡ false) (sym (release-owes s i h (L .seats i) (mine L i) (keeps-at T i h Owes e))) refl
       at h Clears e = subst (λ (d : Done). isTold isPassed (d .answer) ≡ false) (sym (release-clears s i h (L .seats i) (mine L i) (keeps-at T i h Clears e))) refl
       at h Holds e =
-          let lent = lent-to i Holds e refl in
+          let lent = lent-to T i Holds e refl in
           subst (λ (d : Done). isTold isPassed (d .answer) ≡ false) (sym (release-holds s i h (L .seats i) (mine L i) (omega (arith, T .words-long)) (omega (arith, T .most)) (keeps-at T i h Holds e)))
-          (either (λ (d : Done). isTold isPassed (d .answer) ≡ false) (eqb (clearingFor (mine L i) (L .seats i .place)) 0) (λ z. refl) (λ z. refl))
+          (either-by (λ (d : Done). isTold isPassed (d .answer) ≡ false) (eqb (clearingFor (mine L i) (L .seats i .place)) 0) (λ z. refl) (λ z. refl))
 
       by : (x : Bool) → leb SLOTS i ≡ x → isTold isPassed (released i s .answer) ≡ false
       by true e = rw e refl
       by false e = at (leb-false SLOTS i e) (L .seats i .stage) refl
 
   never-passed : (c : Call) → isTold isPassed (played c s .answer) ≡ false
-  unfolding opened shown
+  unfolding opened shown shownOf
   never-passed (Open r m) =
-      either P (not (isRecord r (s .words))) (λ e. refl)
-      (λ e. either P (ltb 1 m) (λ f. refl) (λ f. either P (leb SLOTS (lowestFree (s .slots))) (λ g. refl) (λ g. refl)))
+      either-by P (not (isRecord r (s .words))) (λ e. refl)
+      (λ e. either-by P (ltb 1 m) (λ f. refl) (λ f. either-by P (leb SLOTS (lowestFree (s .slots))) (λ g. refl) (λ g. refl)))
     where
       P : Done → Type 0
       P d = isTold isPassed (d .answer) ≡ false
-  never-passed (Step i) = step-never isPassed refl (λ m. refl) refl refl i (λ h e. ap (isTold isPassed) (clears-told i e) ∙ either (λ (a : Answer). isTold isPassed a ≡ false) (eqb (wordNow s L i) (wordAtRest (mine L i))) (λ z. refl) (λ z. refl))
+  never-passed (Step i) = step-never isPassed refl (λ m. refl) refl refl i (λ h e. ap (isTold isPassed) (clears-told i e) ∙ either-by (λ (a : Answer). isTold isPassed a ≡ false) (eqb (wordNow s L i) (wordAtRest (mine L i))) (λ z. refl) (λ z. refl))
   never-passed (Release i) = release-never i
-  never-passed (Show r) = either (λ (d : Done). isTold isPassed (d .answer) ≡ false) (isRecord r (s .words)) (λ e. refl) (λ e. refl)
+  never-passed (Show r) = either-by (λ (a : Answer). isTold isPassed a ≡ false) (isRecord r (s .words)) (λ e. refl) (λ e. refl)
 
   none-passed : NonePassed (λ c. played c s .answer)
   none-passed c e = clash (isTold isPassed (played c s .answer)) (ap (isTold isPassed) e) (never-passed c)
@@ -280,19 +272,19 @@ module _ {n : ℕ} {s : State} {L : Ledger} (T : Tied n s L) where
 
       at : L .seats i .stage ≡ Clears → (L .seats i .stage ≡ Clears) × AllReleased (mine L i) × NoneOwed L (L .seats i .about)
       at e =
-          let lent = lent-to i Clears e refl in
+          let lent = lent-to T i Clears e refl in
           let now = rested (eqb (wordNow s L i) (wordAtRest (mine L i))) (sym (clears-told i e) ∙ told) in
           let r = at-rest (T .agrees (L .seats i .about) lent) (eqb-true (wordNow s L i) (wordAtRest (mine L i)) now) in (
             e,
             r .0,
             λ j f a.
-                let nobody = below-none (λ x. owesOn (L .seats i .about) (L .seats j .kind) (L .seats x)) SLOTS (r .1 (L .seats j .kind)) j (in-board j Owes f refl) in
+                let nobody = below-none (λ x. owesOn (L .seats i .about) (L .seats j .kind) (L .seats x)) SLOTS (r .1 (L .seats j .kind)) j (in-board T j Owes f refl) in
                 clash (owesOn (L .seats i .about) (L .seats j .kind) (L .seats j)) (owing-here j f (L .seats i .about) a) nobody,
           )
 
   cleared-then : ClearedThen L (λ c. played c s .answer)
   cleared-then i e all none-owed =
-      let lent = lent-to i Clears e refl in
+      let lent = lent-to T i Clears e refl in
       let w = rests (T .agrees (L .seats i .about) lent) all (λ k. none-below (λ x. owesOn (L .seats i .about) k (L .seats x)) SLOTS (λ j h. owes-not k j)) in
       clears-told i e ∙ rw (eq-eqb (wordNow s L i) (wordAtRest (mine L i)) w) refl
     where
@@ -308,9 +300,25 @@ module _ {n : ℕ} {s : State} {L : Ledger} (T : Tied n s L) where
           by Owes f true q = absurd (none-owed j f (eqb-true (L .seats j .about) (L .seats i .about) q))
           by Owes f false q = rw (f, q) refl
 
+  -- an open is refused, or takes a slot that nobody sits in
+  opens-where-nobody-sits : OpensWhereNobodySits L (λ c. played c s .answer)
+  unfolding opened
+  opens-where-nobody-sits r m =
+      either-by P (not (isRecord r (s .words))) (λ e. inl (2, refl))
+      (λ e. either-by P (ltb 1 m) (λ f. inl (3, refl))
+      (λ f. either-by P (leb SLOTS (lowestFree (s .slots))) (λ g. inl (6, refl)) (λ g. inr (lowestFree (s .slots), refl, nobody-there T g))))
+    where
+      P : Done → Type 0
+      P d = OpenTells L (d .answer)
+
   pub demand : Demand n L s (λ c. played c s .answer)
   demand =
       record {
+        seat-has-its-ticket = seat-has-its-ticket T;
+        ticket-has-its-seat = ticket-has-its-seat T;
+        told-by-stage = told-by-stage T;
+        opens-where-nobody-sits = opens-where-nobody-sits;
+        never-more = λ r k h. T .agrees r h .cap k;
         alone = alone;
         drawn-granted = drawn-granted;
         waiting-granted = waiting-granted;

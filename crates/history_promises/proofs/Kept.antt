@@ -10,35 +10,29 @@ use borrow.Author.Tests.{leb-false, ltb-true, ltb-false, le-ltb, eqb-true, eqb-f
 use lib.Dec.{eqb, leb, ltb}
 use lib.ListN.{length, set, length-set, length-replicate, getD-replicate}
 use lib.Seq.{getD-set-same, getD-set-other, set-getD}
-use Rattle.common.specs.Choice.{if_then_else_}
+use Rattle.common.proofs.Choices.{either-by}
 use Rattle.word_layout.specs.Word.{stepOf, addOf}
 use Rattle.agent_ticket.specs.declared.Mode.{Mode}
-use Rattle.agent_request.specs.Request.{inUse, freeRequest, openedRequest}
+use Rattle.agent_request.specs.Request.{inUse, modeOf, freeRequest, openedRequest}
 use Rattle.agent_request.specs.declared.Request.{Request}
 use Rattle.agent_request.specs.declared.Phase.the-variants.{Waiting, Held}
 use Rattle.agent_rules.specs.Life.{ticketCounter}
-use Rattle.agent_rules.specs.declared.Answer.the-variants as tells
 use Rattle.board_slots.specs.Slots.{SLOTS, lowestFree}
 use Rattle.board_slots.proofs.Promises.{lowest-is-free}
 use Rattle.board_call.specs.declared.Call.the-variants.{Open, Step, Release, Show}
 use Rattle.board_rules.specs.Records.{RECORDS, isRecord}
 use Rattle.board_rules.specs.Board.{State, Done, stateOf, slotAt, begun, opened, stepped, released, shown}
 use Rattle.history_promises.specs.Tickets.{Given, ticketAt}
-use Rattle.history_promises.specs.Ledger.{Stage, Seat, Ledger, free, blank, put, seated, staged, mine, drawn, grantedOrWaits, kindOf, notedCall, begunWith}
+use Rattle.history_promises.specs.Ledger.{Stage, Seat, Ledger, free, blank, put, seated, staged, mine, drawn, grantedOrWaits, notedCall, begunWith}
 use Rattle.history_promises.specs.Ledger.Stage.{Nobody, Asks, Waits, Holds, Owes, Clears}
-use Rattle.history_promises.specs.History.{Move, fresh, moved, after, events, noted, readOff, ledgerAfter, boardAfter}
+use Rattle.history_promises.specs.History.{Move, fresh, made, after, events, noted, readOff, ledgerAfter, boardAfter}
 use Rattle.history_promises.specs.History.Move.{Begin, Do}
 use Rattle.history_promises.proofs.Counts.{one, clash, true-or-false, below-put, none-below}
 use Rattle.history_promises.proofs.Turns.{aheadNow, ahead-earlier}
 use Rattle.history_promises.proofs.Words.{topped, clearingFor, wordAtRest, agrees-same, agrees-empty}
 use Rattle.history_promises.proofs.Tied.{modeNumber, withTicket, requestFor, isNobody, hasTicket, mayClear, isOwing, owesOn, owed, Tied, Change, tied-after}
-use Rattle.history_promises.proofs.Sent.{went, step-nobody, step-holds, step-owes, step-clears, step-waits, step-asks-full, step-asks-turn, release-nobody, release-asks, release-waits, release-owes, release-clears, release-holds}
+use Rattle.history_promises.proofs.Sent.{wentTo, step-nobody, step-holds, step-owes, step-clears, step-waits, step-asks-full, step-asks-turn, release-nobody, release-asks, release-waits, release-owes, release-clears, release-holds}
 use Rattle.history_promises.proofs.Moves.{put-same, put-other, none-topped, wordNow, owes-nothing, clearing-last, tied-went, facts-at, full-moved, withdrawn-moved, waits-moved, granted-moved, drawn-moved, drawn-owns, released-moved, due-moved, cleared-moved}
-
--- by what a test says
-pub either : {A : Type 0} (P : A → Type 0) (x : Bool) {a b : A} → (x ≡ true → P a) → (x ≡ false → P b) → P (if x then a else b)
-either P true p q = p refl
-either P false p q = q refl
 
 -- what a slot keeps, at the stage that its seat has
 module _ {n : ℕ} {s : State} {L : Ledger} (T : Tied n s L) (i : ℕ) (here : i < SLOTS) where
@@ -57,7 +51,7 @@ module _ {n : ℕ} {s : State} {L : Ledger} (T : Tied n s L) (i : ℕ) (here : i
   step-kept-at Owes e =
       let lent = lent-at Owes e refl in
       subst StepKeeps (sym (step-owes s i here (L .seats i) (mine L i) (omega (arith, T .words-long)) (omega (arith, T .most)) (keeps-at Owes e)))
-      (tied-went T i here lent _ _ _ tells.Withdrawn (withdrawn-moved T i here lent e))
+      (tied-went T i here lent _ _ _ (withdrawn-moved T i here lent e))
   step-kept-at Asks e =
       let lent = lent-at Asks e refl in
       let inside : L .seats i .about < length (s .words) = omega (arith, T .words-long) in
@@ -66,18 +60,18 @@ module _ {n : ℕ} {s : State} {L : Ledger} (T : Tied n s L) (i : ℕ) (here : i
       let longer = mine L i ++ record { kind = L .seats i .kind; slot = i; released = false } ∷ [] in
       let at = keeps-at Asks e in
       ⊎-elim
-      (λ top. subst StepKeeps (sym (step-asks-full s i here (L .seats i) (mine L i) inside small a at top)) (tied-went T i here lent _ _ _ tells.Full (full-moved T i here lent e top)))
+      (λ top. subst StepKeeps (sym (step-asks-full s i here (L .seats i) (mine L i) inside small a at top)) (tied-went T i here lent _ _ _ (full-moved T i here lent e top)))
       (λ low.
       subst StepKeeps (sym (step-asks-turn s i here (L .seats i) (mine L i) inside small a low at))
-      (either StepKeeps (eqb (aheadNow (L .seats i .kind) longer (length (mine L i))) 0)
+      (either-by StepKeeps (eqb (aheadNow (L .seats i .kind) longer (length (mine L i))) 0)
       (λ z.
-      subst (λ (g : Stage). Tied n (stateOf (went s i (L .seats i .about) (withTicket Held (at-last Holds) longer) (addOf (wordNow s L i) (stepOf (ticketCounter (L .seats i .kind)))) tells.Granted)) (grantedOrWaits g i Holds L)) (sym e)
-      (tied-went T i here lent (drawn i Holds L) _ _ tells.Granted
+      subst (λ (g : Stage). Tied n (wentTo s i (L .seats i .about) (withTicket Held (at-last Holds) longer) (addOf (wordNow s L i) (stepOf (ticketCounter (L .seats i .kind))))) (grantedOrWaits g i Holds L)) (sym e)
+      (tied-went T i here lent (drawn i Holds L) _ _
       (drawn-moved T i here lent e low Holds refl refl refl
       (drawn-owns T i here lent e low Holds refl refl refl, ahead-earlier (L .seats i .kind) longer (length (mine L i)) (omega (arith, drawn-owns T i here lent e low Holds refl refl refl .inside)) (eqb-true (aheadNow (L .seats i .kind) longer (length (mine L i))) 0 z)))))
       (λ z.
-      subst (λ (g : Stage). Tied n (stateOf (went s i (L .seats i .about) (withTicket Waiting (at-last Waits) longer) (addOf (wordNow s L i) (stepOf (ticketCounter (L .seats i .kind)))) tells.Full)) (grantedOrWaits g i Waits L)) (sym e)
-      (tied-went T i here lent (drawn i Waits L) _ _ tells.Full
+      subst (λ (g : Stage). Tied n (wentTo s i (L .seats i .about) (withTicket Waiting (at-last Waits) longer) (addOf (wordNow s L i) (stepOf (ticketCounter (L .seats i .kind))))) (grantedOrWaits g i Waits L)) (sym e)
+      (tied-went T i here lent (drawn i Waits L) _ _
       (drawn-moved T i here lent e low Waits refl refl refl (drawn-owns T i here lent e low Waits refl refl refl))))))
       (true-or-false (topped (mine L i)))
     where
@@ -87,26 +81,26 @@ module _ {n : ℕ} {s : State} {L : Ledger} (T : Tied n s L) (i : ℕ) (here : i
       let lent = lent-at Waits e refl in
       let own = facts-at T i here lent Waits e in
       subst StepKeeps (sym (step-waits s i here (L .seats i) (mine L i) (omega (arith, T .words-long)) (omega (arith, T .most)) (T .agrees (L .seats i .about) lent) (keeps-at Waits e) own))
-      (either StepKeeps (eqb (aheadNow (L .seats i .kind) (mine L i) (L .seats i .place)) 0)
+      (either-by StepKeeps (eqb (aheadNow (L .seats i .kind) (mine L i) (L .seats i .place)) 0)
       (λ z.
-      subst (λ (g : Stage). Tied n (stateOf (went s i (L .seats i .about) (withTicket Held (L .seats i) (mine L i)) (wordNow s L i) tells.Granted)) (grantedOrWaits g i Holds L)) (sym e)
-      (tied-went T i here lent _ _ _ tells.Granted
+      subst (λ (g : Stage). Tied n (wentTo s i (L .seats i .about) (withTicket Held (L .seats i) (mine L i)) (wordNow s L i)) (grantedOrWaits g i Holds L)) (sym e)
+      (tied-went T i here lent _ _ _
       (granted-moved T i here lent e (ahead-earlier (L .seats i .kind) (mine L i) (L .seats i .place) (omega (arith, own .inside)) (eqb-true (aheadNow (L .seats i .kind) (mine L i) (L .seats i .place)) 0 z)))))
       (λ z.
-      subst (λ (g : Stage). Tied n (stateOf (went s i (L .seats i .about) (withTicket Waiting (L .seats i) (mine L i)) (wordNow s L i) tells.Granted)) (grantedOrWaits g i Waits L)) (sym e)
-      (tied-went T i here lent _ _ _ tells.Granted (waits-moved T i here lent e))))
+      subst (λ (g : Stage). Tied n (wentTo s i (L .seats i .about) (withTicket Waiting (L .seats i) (mine L i)) (wordNow s L i)) (grantedOrWaits g i Waits L)) (sym e)
+      (tied-went T i here lent _ _ _ (waits-moved T i here lent e))))
   step-kept-at Clears e =
       let lent = lent-at Clears e refl in
       let closing = facts-at T i here lent Clears e in
       let rest = clearing-last (mine L i) (L .seats i .place) (closing .final) (closing .top) in
       subst StepKeeps (sym (step-clears s i here (L .seats i) (mine L i) (omega (arith, T .words-long)) (omega (arith, T .most)) (keeps-at Clears e) rest))
-      (either StepKeeps (eqb (wordNow s L i) (wordAtRest (mine L i)))
-      (λ z. tied-went T i here lent _ _ _ tells.Cleared (cleared-moved T i here lent e (eqb-true (wordNow s L i) (wordAtRest (mine L i)) z)))
+      (either-by StepKeeps (eqb (wordNow s L i) (wordAtRest (mine L i)))
+      (λ z. tied-went T i here lent _ _ _ (cleared-moved T i here lent e (eqb-true (wordNow s L i) (wordAtRest (mine L i)) z)))
       (λ z. subst (λ (x : State). Tied n x L) (sym (same-state Clears e)) T))
     where
-      same-state : (g : Stage) → L .seats i .stage ≡ g → stateOf (went s i (L .seats i .about) (requestFor g (L .seats i) (mine L i)) (wordNow s L i) tells.NotYetClear) ≡ s
+      same-state : (g : Stage) → L .seats i .stage ≡ g → wentTo s i (L .seats i .about) (requestFor g (L .seats i) (mine L i)) (wordNow s L i) ≡ s
       same-state g e =
-          ap (λ (q : Request). stateOf (went s i (L .seats i .about) q (wordNow s L i) tells.NotYetClear)) (sym (keeps-at g e)) ∙
+          ap (λ (q : Request). wentTo s i (L .seats i .about) q (wordNow s L i)) (sym (keeps-at g e)) ∙
           rw (set-getD (s .slots) i freeRequest, set-getD (s .words) (L .seats i .about) 0) refl
 
   -- the same of a release
@@ -122,9 +116,9 @@ module _ {n : ℕ} {s : State} {L : Ledger} (T : Tied n s L) (i : ℕ) (here : i
   release-kept-at Holds e =
       let lent = lent-at Holds e refl in
       subst ReleaseKeeps (sym (release-holds s i here (L .seats i) (mine L i) (omega (arith, T .words-long)) (omega (arith, T .most)) (keeps-at Holds e)))
-      (either ReleaseKeeps (eqb (clearingFor (mine L i) (L .seats i .place)) 0)
-      (λ z. tied-went T i here lent _ _ _ tells.Released (released-moved T i here lent e free refl (eqb-true (clearingFor (mine L i) (L .seats i .place)) 0 z)))
-      (λ z. tied-went T i here lent _ _ _ tells.ClearingDue (due-moved T i here lent e (staged Clears (L .seats i)) refl (eqb-false (clearingFor (mine L i) (L .seats i .place)) 0 z))))
+      (either-by ReleaseKeeps (eqb (clearingFor (mine L i) (L .seats i .place)) 0)
+      (λ z. tied-went T i here lent _ _ _ (released-moved T i here lent e free refl (eqb-true (clearingFor (mine L i) (L .seats i .place)) 0 z)))
+      (λ z. tied-went T i here lent _ _ _ (due-moved T i here lent e (staged Clears (L .seats i)) refl (eqb-false (clearingFor (mine L i) (L .seats i .place)) 0 z))))
 
 module _ {n : ℕ} {s : State} {L : Ledger} (T : Tied n s L) where
   -- a step and a release of any slot
@@ -146,11 +140,7 @@ module _ {n : ℕ} {s : State} {L : Ledger} (T : Tied n s L) where
 
   show-kept : (r : ℕ) → Tied n (stateOf (shown r s)) L
   unfolding shown
-  show-kept r = by (isRecord r (s .words)) refl
-    where
-      by : (x : Bool) → isRecord r (s .words) ≡ x → Tied n (stateOf (shown r s)) L
-      by true e = rw e T
-      by false e = rw e T
+  show-kept r = T
 
   -- an open takes a slot that nobody sits in
   used : (g : Stage) (t : Seat) (l : List Given) → inUse (requestFor g t l) ≡ false → g ≡ Nobody
@@ -161,21 +151,28 @@ module _ {n : ℕ} {s : State} {L : Ledger} (T : Tied n s L) where
   used Owes t l e = clash true refl e
   used Clears t l e = clash true refl e
 
+  pub nobody-there : leb SLOTS (lowestFree (s .slots)) ≡ false → L .seats (lowestFree (s .slots)) .stage ≡ Nobody
+  nobody-there c =
+      let k = lowestFree (s .slots) in
+      let here = leb-false SLOTS k c in
+      let free-there = lowest-is-free (s .slots) (omega (arith, T .slots-long)) in
+      used (L .seats k .stage) (L .seats k) (mine L k) (ap inUse (sym (T .sits k here .keeps)) ∙ free-there)
+
   module _ (r m k : ℕ) (lent : r < n) (mode : m ≤ 1) (here : k < SLOTS) (nobody : L .seats k .stage ≡ Nobody) where
     abbrev seat-then : Seat
-    seat-then = record { stage = Asks; about = r; kind = kindOf m; place = 0 }
+    seat-then = record { stage = Asks; about = r; kind = modeOf m; place = 0 }
 
     abbrev board-then : State
     board-then = record { slots = set (s .slots) k (openedRequest r m); words = s .words }
 
-    mode-same : (m : ℕ) → m ≤ 1 → m ≡ modeNumber (kindOf m)
+    mode-same : (m : ℕ) → m ≤ 1 → m ≡ modeNumber (modeOf m)
     mode-same m h = by (eqb m 0) refl
       where
         one-of : (m : ℕ) → m ≤ 1 → (m ≡ 0 → ⊥) → m ≡ 1
         one-of zero h d = absurd (d refl)
         one-of (suc m) h d = omega arith
 
-        by : (x : Bool) → eqb m 0 ≡ x → m ≡ modeNumber (kindOf m)
+        by : (x : Bool) → eqb m 0 ≡ x → m ≡ modeNumber (modeOf m)
         by true e = rw e (eqb-true m 0 e)
         by false e = rw e (one-of m h (eqb-false m 0 e))
 
@@ -225,8 +222,7 @@ module _ {n : ℕ} {s : State} {L : Ledger} (T : Tied n s L) where
       by true false false a b c =
           let k = lowestFree (s .slots) in
           let here = leb-false SLOTS k c in
-          let free-there = lowest-is-free (s .slots) (omega (arith, T .slots-long)) in
-          let nobody = used (L .seats k .stage) (L .seats k) (mine L k) (ap inUse (sym (T .sits k here .keeps)) ∙ free-there) in
+          let nobody = nobody-there c in
           let inside = ltb-true r (length (s .words)) (and-first (ltb r (length (s .words))) (ltb r RECORDS) a) in
           let mode = ltb-false 1 m b in
           rw (a, b, c) (tied-after T _ _ k r (open-change r m k (omega (arith, T .words-long)) mode here nobody))
@@ -255,7 +251,7 @@ begin-kept {n} {s} {L} T =
     rw (some, most) (rw (T .words-long) (tied-fresh n (T .some) (T .most)))
 
 -- every call keeps them tied
-pub kept : {n : ℕ} {s : State} {L : Ledger} → Tied n s L → (m : Move) → Tied n (stateOf (moved m s)) (noted m (moved m s .answer) L)
+pub kept : {n : ℕ} {s : State} {L : Ledger} → Tied n s L → (m : Move) → Tied n (stateOf (made m s)) (noted m (made m s .answer) L)
 kept T Begin = begin-kept T
 kept T (Do (Open r m)) = open-kept T r m
 kept T (Do (Step i)) = step-kept T i
@@ -264,11 +260,11 @@ kept T (Do (Show r)) = show-kept T r
 
 -- Any relation between a board and a ledger that every call keeps holds after every sequence of calls, if it holds before it.
 pub always :
-    (R : State → Ledger → Type 0) → ((s : State) (L : Ledger) (m : Move) → R s L → R (stateOf (moved m s)) (noted m (moved m s .answer) L)) →
+    (R : State → Ledger → Type 0) → ((s : State) (L : Ledger) (m : Move) → R s L → R (stateOf (made m s)) (noted m (made m s .answer) L)) →
     (ms : List Move) (s : State) (L : Ledger) → R s L → R (after s ms) (readOff L (events s ms))
 unfolding after events readOff
 always R step [] s L r = r
-always R step (m ∷ ms) s L r = always R step ms (stateOf (moved m s)) (noted m (moved m s .answer) L) (step s L m r)
+always R step (m ∷ ms) s L r = always R step ms (stateOf (made m s)) (noted m (made m s .answer) L) (step s L m r)
 
 pub tied : (n : ℕ) → 1 ≤ n → n ≤ 4096 → (ms : List Move) → Tied n (boardAfter n ms) (ledgerAfter n ms)
 tied n some most ms = always (Tied n) (λ s L m T. kept T m) ms (fresh n) blank (tied-fresh n some most)

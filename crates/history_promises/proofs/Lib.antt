@@ -7,7 +7,7 @@ pub mod Others
 pub mod Sent
 pub mod Moves
 pub mod Kept
+pub mod Seats
 pub mod Demand
 pub mod Stories
-pub mod Seats
 pub mod Empty

@@ -18,17 +18,16 @@ use Rattle.agent_request.specs.Request.{freeRequest}
 use Rattle.agent_request.specs.declared.Request.{Request}
 use Rattle.agent_request.specs.declared.Phase.the-variants.{Waiting, Held, Clearing}
 use Rattle.agent_rules.specs.Life.{ticketCounter, releaseCounter}
-use Rattle.agent_rules.specs.declared.Answer.{Answer as Tells}
 use Rattle.board_slots.specs.Slots.{SLOTS}
-use Rattle.board_rules.specs.Board.{State, stateOf}
-use Rattle.history_promises.specs.Tickets.{Given, noTicket, ticketAt, sameKind, EarlierReleased}
+use Rattle.board_rules.specs.Board.{State}
+use Rattle.history_promises.specs.Tickets.{Given, pastTheLast, ticketAt, sameKind, EarlierReleased}
 use Rattle.history_promises.specs.Ledger.{Stage, Seat, Ledger, free, put, seated, staged, mine, drawn, ticketReleased, ticketsNow, releasedAt}
 use Rattle.history_promises.specs.Ledger.Stage.{Asks, Waits, Holds, Owes, Clears}
 use Rattle.history_promises.proofs.Counts.{one, clash, counted-nil, below-put}
 use Rattle.history_promises.proofs.Words.{Agrees, topped, clearingFor, wordAtRest, agrees-same, agrees-drawn, agrees-owed, agrees-back, agrees-released, agrees-empty, topped-set, at-rest, rest-is-some}
 use Rattle.history_promises.proofs.Tied.{withTicket, requestFor, Owns, Closes, Facts, isNobody, hasTicket, mayClear, isOwing, Sits, Owner, Last, owesOn, owed, Tied, few-owed, OnlyOn, tied-after, same-or-not}
 use Rattle.history_promises.proofs.Others.{others-given, others-released, others-cleared, other-at, this-at, long-at, closes-released}
-use Rattle.history_promises.proofs.Sent.{went}
+use Rattle.history_promises.proofs.Sent.{wentTo}
 
 pub put-same : {A : Type 0} (f : ℕ → A) (k : ℕ) (a : A) → put f k a k ≡ a
 put-same f k a = rw (eq-eqb k k refl) refl
@@ -78,9 +77,9 @@ pub record Moved (n : ℕ) (L L′ : Ledger) (i : ℕ) (q : Request) (w : ℕ) :
   pub last : topped (L′ .tickets (L .seats i .about)) ≡ true → Last (L′ .seats) (L′ .tickets (L .seats i .about)) (L .seats i .about)
 
 module _ {n : ℕ} {s : State} {L : Ledger} (T : Tied n s L) (i : ℕ) (here : i < SLOTS) (lent : L .seats i .about < n) where
-  pub tied-went : (L′ : Ledger) (q : Request) (w : ℕ) (a : Tells) → Moved n L L′ i q w → Tied n (stateOf (went s i (L .seats i .about) q w a)) L′
-  tied-went L′ q w a m =
-      tied-after T (stateOf (went s i (L .seats i .about) q w a)) L′ i (L .seats i .about)
+  pub tied-went : (L′ : Ledger) (q : Request) (w : ℕ) → Moved n L L′ i q w → Tied n (wentTo s i (L .seats i .about) q w) L′
+  tied-went L′ q w m =
+      tied-after T (wentTo s i (L .seats i .about) q w) L′ i (L .seats i .about)
       (record {
         here = here;
         lent = lent;
@@ -226,7 +225,7 @@ module _ {n : ℕ} {s : State} {L : Ledger} (T : Tied n s L) (i : ℕ) (here : i
     seat-then = record { stage = g; about = L .seats i .about; kind = L .seats i .kind; place = length (mine L i) }
 
     mine-at : ticketAt longer (length (mine L i)) ≡ fresh-one
-    mine-at = getD-append-seam (mine L i) fresh-one [] noTicket
+    mine-at = getD-append-seam (mine L i) fresh-one [] pastTheLast
 
     long : length longer ≡ suc (length (mine L i))
     long = omega (arith, length-append (mine L i) (fresh-one ∷ []))
@@ -245,7 +244,7 @@ module _ {n : ℕ} {s : State} {L : Ledger} (T : Tied n s L) (i : ℕ) (here : i
 
         older : p < length (mine L i) → Owner (put (L .seats) i seat-then) longer (L .seats i .about) p
         older q =
-            let same : ticketAt longer p ≡ ticketAt (mine L i) p = List·getD-append (mine L i) (fresh-one ∷ []) noTicket p q in
+            let same : ticketAt longer p ≡ ticketAt (mine L i) p = List·getD-append (mine L i) (fresh-one ∷ []) pastTheLast p q in
             let own = T .owner (L .seats i .about) p lent q (rw same at o) in
             let kept = owner-kept (put (L .seats) i seat-then) (put-other (L .seats) i seat-then) (λ h. clash (hasTicket (L .seats i .stage)) h (ap hasTicket e)) p own in
             record {

@@ -10,7 +10,7 @@ use native.Mathlib.Omega.{arith}
 use lib.ListN.{length, take}
 use Rattle.agent_ticket.specs.declared.Mode.{Mode}
 use Rattle.agent_ticket.specs.declared.Mode.the-variants.{Reader, Writer}
-use Rattle.history_promises.specs.Tickets.{Given, conflicts, noTicket, ticketAt, sameKind, counted, givenOf, EarlierReleased}
+use Rattle.history_promises.specs.Tickets.{Given, conflicts, pastTheLast, ticketAt, sameKind, counted, givenOf, EarlierReleased}
 use Rattle.history_promises.specs.Ledger.{asReleased, releasedAt}
 use Rattle.history_promises.proofs.Counts.{one, clash, true-or-false, counted-cons, counted-nil, counted-append, counted-one, counted-set}
 
@@ -100,7 +100,7 @@ pub released-set :
     (l : List Given) (p : ℕ) (j : Mode) → p < length l → ticketAt l p .released ≡ false →
     releasedOf j (releasedAt l p) ≡ releasedOf j l + one (sameKind j (ticketAt l p .kind))
 released-set l p j h e =
-    let s = counted-set (isReleased j) l p (asReleased (ticketAt l p)) noTicket h in
+    let s = counted-set (isReleased j) l p (asReleased (ticketAt l p)) pastTheLast h in
     let z = released-one j (ticketAt l p) e in
     omega (arith, and-true (sameKind j (ticketAt l p .kind)))
   where
@@ -111,7 +111,7 @@ released-set l p j h e =
 -- the kinds stay
 pub given-set : (l : List Given) (p : ℕ) (j : Mode) → p < length l → givenOf j (releasedAt l p) ≡ givenOf j l
 given-set l p j h =
-    let s = counted-set (ofKind j) l p (asReleased (ticketAt l p)) noTicket h in
+    let s = counted-set (ofKind j) l p (asReleased (ticketAt l p)) pastTheLast h in
     omega arith
 
 -- a ticket whose turn it is may be released

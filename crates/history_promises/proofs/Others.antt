@@ -17,7 +17,7 @@ use Rattle.agent_ticket.specs.declared.Mode.the-variants.{Reader, Writer}
 use Rattle.agent_request.specs.declared.Request.{Request}
 use Rattle.agent_request.specs.declared.Phase.{Phase}
 use Rattle.agent_request.specs.declared.Phase.the-variants.{Waiting, Held, Clearing}
-use Rattle.history_promises.specs.Tickets.{Given, noTicket, ticketAt, givenOf, EarlierReleased, AllReleased}
+use Rattle.history_promises.specs.Tickets.{Given, pastTheLast, ticketAt, givenOf, EarlierReleased, AllReleased}
 use Rattle.history_promises.specs.Ledger.{Stage, Seat, asReleased, releasedAt}
 use Rattle.history_promises.specs.Ledger.Stage.{Nobody, Asks, Waits, Holds, Owes, Clears}
 use Rattle.history_promises.proofs.Counts.{clash}
@@ -65,7 +65,7 @@ never false w = refl
 -- the other tickets stay where one is given
 module _ (l : List Given) (g : Given) (low : topped l ≡ false) where
   same-at : (p : ℕ) → p < length l → ticketAt (l ++ g ∷ []) p ≡ ticketAt l p
-  same-at p h = List·getD-append l (g ∷ []) noTicket p h
+  same-at p h = List·getD-append l (g ∷ []) pastTheLast p h
 
   seen-given : (t : Seat) (j : ℕ) → Owns t l j → Seen t l (l ++ g ∷ []) j
   seen-given t j o =
@@ -95,7 +95,7 @@ module _ (l : List Given) (p : ℕ) (inside : p < length l) where
     where
       after-it : p < x → givenOf k (take x (releasedAt l p)) ≡ givenOf k (take x l)
       after-it m =
-          let at : ticketAt (take x l) p ≡ ticketAt l p = getD-take x l p noTicket m in
+          let at : ticketAt (take x l) p ≡ ticketAt l p = getD-take x l p pastTheLast m in
           let long : length (take x l) ≡ x = length-take-le x l h in
           rw (take-set-lt x l p (asReleased (ticketAt l p)) m, sym at) (given-set (take x l) p k (omega arith))
 
@@ -104,16 +104,16 @@ module _ (l : List Given) (p : ℕ) (inside : p < length l) where
 
   -- kind and slot stay, and released stays released
   pub kind-at : (x : ℕ) → ticketAt (releasedAt l p) x .kind ≡ ticketAt l x .kind
-  kind-at x = ⊎-elim (λ e. rw e (ap (λ (t : Given). t .kind) (getD-set-same l p _ noTicket inside))) (λ e. ap (λ (t : Given). t .kind) (getD-set-other l p x _ noTicket e)) (same-or-not x p)
+  kind-at x = ⊎-elim (λ e. rw e (ap (λ (t : Given). t .kind) (getD-set-same l p _ pastTheLast inside))) (λ e. ap (λ (t : Given). t .kind) (getD-set-other l p x _ pastTheLast e)) (same-or-not x p)
 
   pub slot-at : (x : ℕ) → ticketAt (releasedAt l p) x .slot ≡ ticketAt l x .slot
-  slot-at x = ⊎-elim (λ e. rw e (ap (λ (t : Given). t .slot) (getD-set-same l p _ noTicket inside))) (λ e. ap (λ (t : Given). t .slot) (getD-set-other l p x _ noTicket e)) (same-or-not x p)
+  slot-at x = ⊎-elim (λ e. rw e (ap (λ (t : Given). t .slot) (getD-set-same l p _ pastTheLast inside))) (λ e. ap (λ (t : Given). t .slot) (getD-set-other l p x _ pastTheLast e)) (same-or-not x p)
 
   pub other-at : (x : ℕ) → (x ≡ p → ⊥) → ticketAt (releasedAt l p) x ≡ ticketAt l x
-  other-at x d = getD-set-other l p x _ noTicket d
+  other-at x d = getD-set-other l p x _ pastTheLast d
 
   pub this-at : ticketAt (releasedAt l p) p .released ≡ true
-  this-at = ap (λ (t : Given). t .released) (getD-set-same l p (asReleased (ticketAt l p)) noTicket inside)
+  this-at = ap (λ (t : Given). t .released) (getD-set-same l p (asReleased (ticketAt l p)) pastTheLast inside)
 
   stays-released : (x : ℕ) → ticketAt l x .released ≡ true → ticketAt (releasedAt l p) x .released ≡ true
   stays-released x r = ⊎-elim (λ e. rw e this-at) (λ e. rw (other-at x e) r) (same-or-not x p)

@@ -1,7 +1,7 @@
 -- That the ledger is read rightly: what ties it to the board says so, and what a step or a release comes to at each stage is known.
 -- Assumes nothing.
 use Prim.Native.Nat.{ℕ, zero, suc, _<_, _≤_}
-use mathlib.Core.Path.{_≡_, refl, ap, sym, subst}
+use mathlib.Core.Path.{_≡_, refl, ap, sym, subst, _∙_}
 use mathlib.Core.Bool.{Bool, true, false}
 use mathlib.Core.Logic.{inl, inr, ⊎-elim}
 use mathlib.Core.List.{[], _∷_, _++_}
@@ -9,6 +9,7 @@ use native.Mathlib.Omega.{arith}
 use borrow.Author.Tests.{leb-true, leb-false, ltb-false, eqb-false}
 use lib.Dec.{eqb, leb, ltb}
 use lib.ListN.{length}
+use Rattle.common.proofs.Choices.{either-by}
 use Rattle.agent_ticket.specs.declared.Mode.{Mode}
 use Rattle.board_slots.specs.Slots.{SLOTS}
 use Rattle.board_rules.specs.Records.{RECORDS}
@@ -19,15 +20,14 @@ use Rattle.history_promises.specs.History.{fresh}
 use Rattle.history_promises.specs.Tickets.{Given, ticketAt}
 use Rattle.history_promises.specs.Ledger.{Stage, Ledger, mine}
 use Rattle.history_promises.specs.Ledger.Stage.{Nobody, Asks, Waits, Holds, Owes, Clears}
-use Rattle.history_promises.specs.Seats.{HasTicket, SeatHasItsTicket, TicketHasItsSeat, StepTells, ReleaseTells, ToldByStage, Reading, ReadRightly, BegunIsFresh}
+use Rattle.history_promises.specs.Promises.{HasTicket, SeatHasItsTicket, TicketHasItsSeat, StepTells, ReleaseTells, ToldByStage, BegunIsFresh}
 use Rattle.history_promises.proofs.Counts.{clash, true-or-false}
 use Rattle.history_promises.proofs.Turns.{aheadNow}
 use Rattle.history_promises.proofs.Words.{topped, clearingFor, wordAtRest}
-use Rattle.history_promises.proofs.Tied.{Owns, Tied, hasTicket}
+use Rattle.history_promises.proofs.Tied.{Owns, Facts, Tied, isNobody, hasTicket}
 use Rattle.history_promises.proofs.Sent.{step-nobody, step-holds, step-owes, step-clears, step-waits, step-asks-full, step-asks-turn, release-nobody, release-asks, release-waits, release-owes, release-clears, release-holds}
-use Rattle.history_promises.proofs.Moves.{wordNow, clearing-last}
-use Rattle.history_promises.proofs.Kept.{either, keeps-at, tied}
-use Rattle.history_promises.proofs.Demand.{lent-to, facts-of}
+use Rattle.history_promises.proofs.Moves.{wordNow, clearing-last, facts-at}
+use Rattle.history_promises.proofs.Kept.{keeps-at, lent-at}
 
 same-parts : {k k′ : Mode} {i i′ : ℕ} {b b′ : Bool} → k ≡ k′ → i ≡ i′ → b ≡ b′ → _≡_ {A = Given} (record { kind = k; slot = i; released = b }) (record { kind = k′; slot = i′; released = b′ })
 same-parts p q r = cc
@@ -41,41 +41,51 @@ has-or Owes e = clash false e refl
 has-or Clears e = clash false e refl
 
 module _ {n : ℕ} {s : State} {L : Ledger} (T : Tied n s L) where
-  seat-has-its-ticket : SeatHasItsTicket L
-  seat-has-its-ticket i h = by (⊎-elim (λ e. facts-of T i Waits e refl) (λ e. facts-of T i Holds e refl .0) h)
+  -- a slot at a stage is one of the 256
+  pub in-board : (i : ℕ) (g : Stage) → L .seats i .stage ≡ g → isNobody g ≡ false → i < SLOTS
+  in-board i g e f = ⊎-elim (λ h. clash (isNobody g) (sym (ap isNobody e) ∙ ap isNobody (T .beyond i (leb-true SLOTS i h))) f) (λ h. leb-false SLOTS i h) (true-or-false (leb SLOTS i))
+
+  pub lent-to : (i : ℕ) (g : Stage) → L .seats i .stage ≡ g → isNobody g ≡ false → L .seats i .about < n
+  lent-to i g e f = lent-at T i (in-board i g e f) g e f
+
+  pub facts-of : (i : ℕ) (g : Stage) → L .seats i .stage ≡ g → isNobody g ≡ false → Facts g (L .seats i) (mine L i) i
+  facts-of i g e f = facts-at T i (in-board i g e f) (lent-to i g e f) g e
+
+  pub seat-has-its-ticket : SeatHasItsTicket L
+  seat-has-its-ticket i h = by (⊎-elim (λ e. facts-of i Waits e refl) (λ e. facts-of i Holds e refl .0) h)
     where
       by : Owns (L .seats i) (mine L i) i → (L .seats i .place < length (mine L i)) × (ticketAt (mine L i) (L .seats i .place) ≡ record { kind = L .seats i .kind; slot = i; released = false })
       by o = (o .inside, same-parts (o .kind) (o .slot) (o .open-now))
 
-  ticket-has-its-seat : TicketHasItsSeat n L
+  pub ticket-has-its-seat : TicketHasItsSeat n L
   ticket-has-its-seat r j h l e = let o = T .owner r j h l e in (has-or _ (o .has), o .about, o .place)
 
   step-told : (i : ℕ) → i < SLOTS → (g : Stage) → L .seats i .stage ≡ g → StepTells g (stepped i s .answer)
   step-told i here Nobody e = rw (step-nobody s i here (keeps-at T i here Nobody e)) (inr refl)
   step-told i here Holds e = rw (step-holds s i here (L .seats i) (mine L i) (keeps-at T i here Holds e)) refl
   step-told i here Owes e =
-      let lent = lent-to T i Owes e refl in
+      let lent = lent-to i Owes e refl in
       rw (step-owes s i here (L .seats i) (mine L i) (omega (arith, T .words-long)) (omega (arith, T .most)) (keeps-at T i here Owes e)) refl
   step-told i here Waits e =
-      let lent = lent-to T i Waits e refl in
-      subst (λ (d : Done). StepTells Waits (d .answer)) (sym (step-waits s i here (L .seats i) (mine L i) (omega (arith, T .words-long)) (omega (arith, T .most)) (T .agrees (L .seats i .about) lent) (keeps-at T i here Waits e) (facts-of T i Waits e refl)))
-      (either (λ (d : Done). StepTells Waits (d .answer)) (eqb (aheadNow (L .seats i .kind) (mine L i) (L .seats i .place)) 0) (λ z. inl refl) (λ z. inr (_, refl)))
+      let lent = lent-to i Waits e refl in
+      subst (λ (d : Done). StepTells Waits (d .answer)) (sym (step-waits s i here (L .seats i) (mine L i) (omega (arith, T .words-long)) (omega (arith, T .most)) (T .agrees (L .seats i .about) lent) (keeps-at T i here Waits e) (facts-of i Waits e refl)))
+      (either-by (λ (d : Done). StepTells Waits (d .answer)) (eqb (aheadNow (L .seats i .kind) (mine L i) (L .seats i .place)) 0) (λ z. inl refl) (λ z. inr (_, refl)))
   step-told i here Asks e =
-      let lent = lent-to T i Asks e refl in
+      let lent = lent-to i Asks e refl in
       let inside : L .seats i .about < length (s .words) = omega (arith, T .words-long) in
       let few : L .seats i .about < 4096 = omega (arith, T .most) in
       let a = T .agrees (L .seats i .about) lent in
       ⊎-elim
       (λ top. subst (λ (d : Done). StepTells Asks (d .answer)) (sym (step-asks-full s i here (L .seats i) (mine L i) inside few a (keeps-at T i here Asks e) top)) (inl refl))
       (λ low. subst (λ (d : Done). StepTells Asks (d .answer)) (sym (step-asks-turn s i here (L .seats i) (mine L i) inside few a low (keeps-at T i here Asks e)))
-      (either (λ (d : Done). StepTells Asks (d .answer)) (eqb (aheadNow (L .seats i .kind) (mine L i ++ record { kind = L .seats i .kind; slot = i; released = false } ∷ []) (length (mine L i))) 0) (λ z. inr (inl refl)) (λ z. inr (inr (_, refl)))))
+      (either-by (λ (d : Done). StepTells Asks (d .answer)) (eqb (aheadNow (L .seats i .kind) (mine L i ++ record { kind = L .seats i .kind; slot = i; released = false } ∷ []) (length (mine L i))) 0) (λ z. inr (inl refl)) (λ z. inr (inr (_, refl)))))
       (true-or-false (topped (mine L i)))
   step-told i here Clears e =
-      let lent = lent-to T i Clears e refl in
-      let closing = facts-of T i Clears e refl in
+      let lent = lent-to i Clears e refl in
+      let closing = facts-of i Clears e refl in
       let rest = clearing-last (mine L i) (L .seats i .place) (closing .final) (closing .top) in
       subst (λ (d : Done). StepTells Clears (d .answer)) (sym (step-clears s i here (L .seats i) (mine L i) (omega (arith, T .words-long)) (omega (arith, T .most)) (keeps-at T i here Clears e) rest))
-      (either (λ (d : Done). StepTells Clears (d .answer)) (eqb (wordNow s L i) (wordAtRest (mine L i))) (λ z. inl refl) (λ z. inr refl))
+      (either-by (λ (d : Done). StepTells Clears (d .answer)) (eqb (wordNow s L i) (wordAtRest (mine L i))) (λ z. inl refl) (λ z. inr refl))
 
   release-told : (i : ℕ) → i < SLOTS → (g : Stage) → L .seats i .stage ≡ g → ReleaseTells g (released i s .answer)
   release-told i h Nobody e = rw (release-nobody s i h (keeps-at T i h Nobody e)) (inr refl)
@@ -84,9 +94,9 @@ module _ {n : ℕ} {s : State} {L : Ledger} (T : Tied n s L) where
   release-told i h Owes e = rw (release-owes s i h (L .seats i) (mine L i) (keeps-at T i h Owes e)) refl
   release-told i h Clears e = rw (release-clears s i h (L .seats i) (mine L i) (keeps-at T i h Clears e)) refl
   release-told i h Holds e =
-      let lent = lent-to T i Holds e refl in
+      let lent = lent-to i Holds e refl in
       subst (λ (d : Done). ReleaseTells Holds (d .answer)) (sym (release-holds s i h (L .seats i) (mine L i) (omega (arith, T .words-long)) (omega (arith, T .most)) (keeps-at T i h Holds e)))
-      (either (λ (d : Done). ReleaseTells Holds (d .answer)) (eqb (clearingFor (mine L i) (L .seats i .place)) 0) (λ z. inl refl) (λ z. inr refl))
+      (either-by (λ (d : Done). ReleaseTells Holds (d .answer)) (eqb (clearingFor (mine L i) (L .seats i .place)) 0) (λ z. inl refl) (λ z. inr refl))
 
   pub told-by-stage : ToldByStage L (λ c. played c s .answer)
   unfolding stepped released
@@ -95,18 +105,6 @@ module _ {n : ℕ} {s : State} {L : Ledger} (T : Tied n s L) where
       by : (x : Bool) → leb SLOTS i ≡ x → StepTells (L .seats i .stage) (stepped i s .answer) × ReleaseTells (L .seats i .stage) (released i s .answer)
       by true e = rw (T .beyond i (leb-true SLOTS i e), e) (inl refl, inl refl)
       by false e = let here = leb-false SLOTS i e in (step-told i here (L .seats i .stage) refl, release-told i here (L .seats i .stage) refl)
-
-  reading : Reading n L (λ c. played c s .answer)
-  reading =
-      record {
-        seat-has-its-ticket = seat-has-its-ticket;
-        ticket-has-its-seat = ticket-has-its-seat;
-        told-by-stage = told-by-stage;
-        never-more = λ r k h. T .agrees r h .cap k;
-      }
-
-pub read-rightly : ReadRightly
-read-rightly n some most ms = reading (tied n some most ms)
 
 abbrev isBegun : Answer → Bool
 isBegun Begun = true

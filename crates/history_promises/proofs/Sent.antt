@@ -28,7 +28,7 @@ use Rattle.board_slots.specs.Slots.{SLOTS}
 use Rattle.board_rules.specs.Records.{isNothing, refusalOf}
 use Rattle.board_rules.specs.declared.Answer.the-variants.{Told}
 use Rattle.board_rules.specs.Board.{State, Done, slotAt, sent, stepped, released, refused}
-use Rattle.history_promises.specs.Tickets.{Given, noTicket, givenOf}
+use Rattle.history_promises.specs.Tickets.{Given, pastTheLast, givenOf}
 use Rattle.history_promises.specs.Ledger.{Stage, Seat}
 use Rattle.history_promises.specs.Ledger.Stage.{Asks, Waits, Holds, Owes, Clears}
 use Rattle.history_promises.proofs.Order.{append-ordered}
@@ -39,6 +39,10 @@ use Rattle.history_promises.proofs.Tied.{modeNumber, withTicket, reques
 -- a verb was sent for the slot i, on the record r: the request, the word and what is told afterwards
 abbrev pub went : State → ℕ → ℕ → Request → ℕ → Tells → Done
 went s i r q w a = record { slots = set (s .slots) i q; words = set (s .words) r w; answer = Told a }
+
+-- the board afterwards, whatever is told
+abbrev pub wentTo : State → ℕ → ℕ → Request → ℕ → State
+wentTo s i r q w = record { slots = set (s .slots) i q; words = set (s .words) r w }
 
 pub mode-number : (k : Mode) → modeOf (modeNumber k) ≡ k
 mode-number Reader = refl
@@ -252,7 +256,7 @@ module _ (s : State) (i : ℕ) (here : i < SLOTS) where
 
         law : turnOf (t .kind) (ticketOf longer (length l)) (splitOf (getD (s .words) (t .about) 0)) ≡ turnAt (aheadNow (t .kind) longer (length l)) askingAhead
         law =
-            let mine = getD-append-seam l fresh-ticket [] noTicket in
+            let mine = getD-append-seam l fresh-ticket [] pastTheLast in
             turn-law (t .kind) longer (length l) (splitOf (getD (s .words) (t .about) 0)) (append-ordered l fresh-ticket refl (a .order))
             (omega (arith, length-append l (fresh-ticket ∷ []))) (ap (λ (g : Given). g .released) mine) (ap (λ (g : Given). g .kind) mine)
             (ap (λ (c : Counters). c .nx .0) (a .word) ∙ sym (released-more a fresh-ticket refl low Writer))

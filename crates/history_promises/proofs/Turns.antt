@@ -18,7 +18,7 @@ use Rattle.agent_ticket.specs.declared.Mode.{Mode}
 use Rattle.agent_ticket.specs.declared.Mode.the-variants.{Reader, Writer}
 use Rattle.agent_ticket.specs.declared.Turn.{Turn}
 use Rattle.agent_ticket.specs.declared.Turn.the-variants as turn
-use Rattle.history_promises.specs.Tickets.{Given, conflicts, noTicket, ticketAt, sameKind, givenOf, EarlierReleased, AllReleased}
+use Rattle.history_promises.specs.Tickets.{Given, conflicts, pastTheLast, ticketAt, sameKind, givenOf, EarlierReleased, AllReleased}
 use Rattle.history_promises.proofs.Counts.{clash, none-each, each-none}
 use Rattle.history_promises.proofs.Order.{isOpen, openOf, releasedOf, Ordered, before-open, same-eq}
 
@@ -96,20 +96,20 @@ not-open j t h = by (sameKind j (t .kind)) refl
     by false q = rw q refl
 
 pub ahead-earlier : (k : Mode) (l : List Given) (p : ℕ) → p ≤ length l → aheadNow k l p ≡ 0 → EarlierReleased l k p
-ahead-earlier k l p h z j m c = shut (ticketAt l j) (none-each (isOpen (ticketAt l j .kind)) l p noTicket (none-ahead k l p z (ticketAt l j .kind) c) j m (omega arith))
+ahead-earlier k l p h z j m c = shut (ticketAt l j) (none-each (isOpen (ticketAt l j .kind)) l p pastTheLast (none-ahead k l p z (ticketAt l j .kind) c) j m (omega arith))
 
 pub earlier-ahead : (k : Mode) (l : List Given) (p : ℕ) → EarlierReleased l k p → aheadNow k l p ≡ 0
 earlier-ahead k l p r =
-    ahead-none k l p (λ j c. each-none (isOpen j) l p noTicket (λ i m n. not-open j (ticketAt l i) (λ s. r i m (rw (sym (same-eq j (ticketAt l i .kind) s)) c))))
+    ahead-none k l p (λ j c. each-none (isOpen j) l p pastTheLast (λ i m n. not-open j (ticketAt l i) (λ s. r i m (rw (sym (same-eq j (ticketAt l i .kind) s)) c))))
 
 -- no ticket unreleased
 pub all-released-none : (l : List Given) → AllReleased l → (k : Mode) → openOf k l ≡ 0
 all-released-none l a k =
-    let z = each-none (isOpen k) l (length l) noTicket (λ i m n. not-open k (ticketAt l i) (λ s. a i)) in
+    let z = each-none (isOpen k) l (length l) pastTheLast (λ i m n. not-open k (ticketAt l i) (λ s. a i)) in
     rw take-length at z
 
 pub none-all-released : (l : List Given) → ((k : Mode) → openOf k l ≡ 0) → AllReleased l
-none-all-released l h j = ⊎-elim (λ m. inside m) (λ m. ap (λ (t : Given). t .released) (List·getD-eq-default l noTicket m)) (cases j (length l))
+none-all-released l h j = ⊎-elim (λ m. inside m) (λ m. ap (λ (t : Given). t .released) (List·getD-eq-default l pastTheLast m)) (cases j (length l))
   where
     cases : (a b : ℕ) → (a < b) ⊎ (b ≤ a)
     cases a b = by (ltb a b) refl
@@ -119,4 +119,4 @@ none-all-released l h j = ⊎-elim (λ m. inside m) (λ m. ap (λ (t : Given). t
         by false e = inr (omega (arith, ltb-false a b e))
 
     inside : j < length l → ticketAt l j .released ≡ true
-    inside m = shut (ticketAt l j) (none-each (isOpen (ticketAt l j .kind)) l (length l) noTicket (rw take-length (h (ticketAt l j .kind))) j m m)
+    inside m = shut (ticketAt l j) (none-each (isOpen (ticketAt l j .kind)) l (length l) pastTheLast (rw take-length (h (ticketAt l j .kind))) j m m)

@@ -17,14 +17,14 @@ pub data Move : Type 0 where
 abbrev pub fresh : ℕ → State
 fresh n = record { slots = freshSlots; words = replicate n 0 }
 
-abbrev pub moved : Move → State → Done
-moved Begin s = begun s
-moved (Do c) s = played c s
+abbrev pub made : Move → State → Done
+made Begin s = begun s
+made (Do c) s = played c s
 
 -- Rule 9.1: The board after some calls.
 unfoldable pub after : State → List Move → State
 after s [] = s
-after s (m ∷ ms) = after (stateOf (moved m s)) ms
+after s (m ∷ ms) = after (stateOf (made m s)) ms
 
 -- A call and its answer.
 pub record Event : Type 0 where
@@ -34,7 +34,7 @@ pub record Event : Type 0 where
 -- The calls with their answers.
 unfoldable pub events : State → List Move → List Event
 events s [] = []
-events s (m ∷ ms) = record { move = m; answer = moved m s .answer } ∷ events (stateOf (moved m s)) ms
+events s (m ∷ ms) = record { move = m; answer = made m s .answer } ∷ events (stateOf (made m s)) ms
 
 abbrev pub noted : Move → Answer → Ledger → Ledger
 noted Begin a L = begunWith a L

@@ -6,7 +6,8 @@ use lib.Dec.{eqb}
 use lib.ListN.{length, set}
 use Rattle.common.specs.Choice.{if_then_else_}
 use Rattle.agent_ticket.specs.declared.Mode.{Mode}
-use Rattle.agent_ticket.specs.declared.Mode.the-variants.{Reader, Writer}
+use Rattle.agent_ticket.specs.declared.Mode.the-variants.{Reader}
+use Rattle.agent_request.specs.Request.{modeOf}
 use Rattle.board_call.specs.declared.Call.{Call}
 use Rattle.board_call.specs.declared.Call.the-variants.{Open, Step, Release, Show}
 use Rattle.agent_rules.specs.declared.Answer.{Answer as Tells}
@@ -31,7 +32,7 @@ pub record Seat : Type 0 where
   pub kind : Mode
   pub place : ℕ
 
--- For each record its tickets since it began or was last cleared, oldest first; for each slot its seat. The tickets from before a clearing
+-- For each record its tickets since begin or its last clearing, oldest first; for each slot its seat. The tickets from before a clearing
 -- can be left out: `ClearedOnly` says that each of them had been released.
 pub record Ledger : Type 0 where
   pub tickets : ℕ → List Given
@@ -67,7 +68,8 @@ drawn i g L =
     seated (ticketsNow L (L .seats i .about) (mine L i ++ record { kind = L .seats i .kind; slot = i; released = false } ∷ []))
     i (record { stage = g; about = L .seats i .about; kind = L .seats i .kind; place = length (mine L i) })
 
--- Rules 9.2 and 9.5: Granted or waiting: a slot that asks is given a ticket; one that waits already has it. None else is told so (`ToldByStage`).
+-- Rules 9.2 and 9.5: Granted or waiting: a slot that asks is given a ticket; one that waits already has it. None else is told so, which is
+-- `ToldByStage` of demand 3.
 abbrev pub grantedOrWaits : Stage → ℕ → Stage → Ledger → Ledger
 grantedOrWaits Asks i g L = drawn i g L
 grantedOrWaits Waits i g L = seated L i (staged g (L .seats i))
@@ -112,13 +114,9 @@ releaseTold i NotYetClear L = L
 releaseTold i WrongPhase L = L
 releaseTold i Passed L = L
 
--- Rule 2.2: A mode of 0 is a reader's, another a writer's.
-abbrev pub kindOf : ℕ → Mode
-kindOf m = if eqb m 0 then Reader else Writer
-
 -- Rules 9.2 and 9.3: What a call and its answer tell. A refusal tells nothing.
 abbrev pub notedCall : Call → Answer → Ledger → Ledger
-notedCall (Open r m) (Opened k) L = seated L k (record { stage = Asks; about = r; kind = kindOf m; place = 0 })
+notedCall (Open r m) (Opened k) L = seated L k (record { stage = Asks; about = r; kind = modeOf m; place = 0 })
 notedCall (Open r m) (Refused n) L = L
 notedCall (Open r m) Begun L = L
 notedCall (Open r m) (Told a) L = L
@@ -135,7 +133,7 @@ notedCall (Release i) (Opened k) L = L
 notedCall (Release i) (Shown w) L = L
 notedCall (Show r) a L = L
 
--- Rule 9.1: An accepted begin starts a new ledger.
+-- Rule 9.1: With an accepted begin the ledger starts anew.
 abbrev pub begunWith : Answer → Ledger → Ledger
 begunWith Begun L = blank
 begunWith (Refused n) L = L

@@ -3,5 +3,4 @@ pub mod Ledger
 pub mod History
 pub mod Promises
 pub mod Stories
-pub mod Seats
 pub mod Empty

@@ -1,24 +1,83 @@
--- Demand 3 of docs/RULES.md, section 11, in the order of its sentences. Statements only: proofs/ has why each holds.
+-- Demand 3 of docs/RULES.md, section 11: first that the ledger is read rightly, then D3.1 to D3.7 in order, then all of it as one.
+-- Statements only: proofs/ has why each holds.
 use Prim.Native.Nat.{ℕ, _<_, _≤_}
 use mathlib.Core.Path.{_≡_}
+use mathlib.Core.Bool.{false}
 use mathlib.Core.Logic.{_↔_, _⊎_}
 use mathlib.Core.List.{List}
 use lib.ListN.{length, getD}
 use Rattle.word_layout.specs.Word.{heldBy}
 use Rattle.word_layout.specs.declared.Counter.{Counter}
+use Rattle.agent_ticket.specs.declared.Mode.{Mode}
 use Rattle.agent_ticket.specs.declared.Mode.the-variants.{Reader, Writer}
 use Rattle.board_call.specs.declared.Call.{Call}
-use Rattle.board_call.specs.declared.Call.the-variants.{Step}
-use Rattle.agent_rules.specs.declared.Answer.the-variants.{Granted, Full, Cleared, Passed}
+use Rattle.board_call.specs.declared.Call.the-variants.{Open, Step, Release}
+use Rattle.agent_rules.specs.declared.Answer.the-variants.{Granted, Waiting, Full, Withdrawn, Released, ClearingDue, Cleared, NotYetClear, Passed}
 use Rattle.board_rules.specs.declared.Answer.{Answer}
-use Rattle.board_rules.specs.declared.Answer.the-variants.{Told}
-use Rattle.board_rules.specs.Board.{State}
-use Rattle.history_promises.specs.Tickets.{givenOf, EarlierReleased, AllReleased}
-use Rattle.history_promises.specs.Ledger.{Ledger, mine}
-use Rattle.history_promises.specs.Ledger.Stage.{Asks, Waits, Holds, Owes, Clears}
-use Rattle.history_promises.specs.History.{Move, ledgerAfter, boardAfter, answerAfter}
+use Rattle.board_rules.specs.declared.Answer.the-variants.{Refused, Begun, Opened, Told}
+use Rattle.board_rules.specs.Board.{State, stateOf, begun}
+use Rattle.history_promises.specs.Tickets.{ticketAt, givenOf, EarlierReleased, AllReleased}
+use Rattle.history_promises.specs.Ledger.{Ledger, Stage, mine}
+use Rattle.history_promises.specs.Ledger.Stage.{Nobody, Asks, Waits, Holds, Owes, Clears}
+use Rattle.history_promises.specs.History.{Move, fresh, ledgerAfter, boardAfter, answerAfter}
 
--- Demand D3.1: While a writer holds a record nobody else holds it.
+-- First, that the ledger is read rightly.
+
+abbrev pub HasTicket : Stage → Type 0
+HasTicket g = (g ≡ Waits) ⊎ (g ≡ Holds)
+
+-- Who waits or holds has a ticket of its own, unreleased, at its place.
+abbrev pub SeatHasItsTicket : Ledger → Type 0
+SeatHasItsTicket L =
+    (i : ℕ) →
+    HasTicket (L .seats i .stage) →
+    (L .seats i .place < length (mine L i)) ×
+    (ticketAt (mine L i) (L .seats i .place) ≡ record { kind = L .seats i .kind; slot = i; released = false })
+
+-- Every unreleased ticket is that of the slot that it names, which waits or holds.
+abbrev pub TicketHasItsSeat : ℕ → Ledger → Type 0
+TicketHasItsSeat n L =
+    (r j : ℕ) → r < n → j < length (L .tickets r) →
+    ticketAt (L .tickets r) j .released ≡ false →
+    HasTicket (L .seats (ticketAt (L .tickets r) j .slot) .stage) ×
+    (L .seats (ticketAt (L .tickets r) j .slot) .about ≡ r) × (L .seats (ticketAt (L .tickets r) j .slot) .place ≡ j)
+
+-- What a step is told, by its slot's stage. So none is granted, or told to wait, but a slot that asks or waits: the ledger leaves no grant
+-- out. A step of a slot that asks, waits, owes or clears is never refused, and none but a slot that asks is told full.
+abbrev pub StepTells : Stage → Answer → Type 0
+StepTells Nobody a = (a ≡ Refused 1) ⊎ (a ≡ Refused 4)
+StepTells Asks a = (a ≡ Told Full) ⊎ ((a ≡ Told Granted) ⊎ ((n : ℕ) × (a ≡ Told (Waiting n))))
+StepTells Waits a = (a ≡ Told Granted) ⊎ ((n : ℕ) × (a ≡ Told (Waiting n)))
+StepTells Holds a = a ≡ Refused 5
+StepTells Owes a = a ≡ Told Withdrawn
+StepTells Clears a = (a ≡ Told Cleared) ⊎ (a ≡ Told NotYetClear)
+
+-- What a release is told: a slot lets go only while it holds, and is then never refused.
+abbrev pub ReleaseTells : Stage → Answer → Type 0
+ReleaseTells Nobody a = (a ≡ Refused 1) ⊎ (a ≡ Refused 4)
+ReleaseTells Asks a = a ≡ Refused 5
+ReleaseTells Waits a = a ≡ Refused 5
+ReleaseTells Holds a = (a ≡ Told Released) ⊎ (a ≡ Told ClearingDue)
+ReleaseTells Owes a = a ≡ Refused 5
+ReleaseTells Clears a = a ≡ Refused 5
+
+abbrev pub ToldByStage : Ledger → (Call → Answer) → Type 0
+ToldByStage L says = (i : ℕ) → StepTells (L .seats i .stage) (says (Step i)) × ReleaseTells (L .seats i .stage) (says (Release i))
+
+-- What an open is told: a refusal, or a slot in which nobody sits. So no open takes its slot from one who asks, waits, holds, owes or clears.
+abbrev pub OpenTells : Ledger → Answer → Type 0
+OpenTells L a = ((n : ℕ) × (a ≡ Refused n)) ⊎ ((k : ℕ) × (a ≡ Opened k) × (L .seats k .stage ≡ Nobody))
+
+abbrev pub OpensWhereNobodySits : Ledger → (Call → Answer) → Type 0
+OpensWhereNobodySits L says = (r m : ℕ) → OpenTells L (says (Open r m))
+
+-- A record never has more than 32,768 tickets of a kind.
+abbrev pub NeverMore : ℕ → Ledger → Type 0
+NeverMore n L = (r : ℕ) (k : Mode) → r < n → givenOf k (L .tickets r) ≤ 32768
+
+-- Then D3.1 to D3.7.
+
+-- Demand D3.1: A record that a writer holds has no other holder: whoever holds it is that writer.
 abbrev pub WriterHoldsAlone : Ledger → Type 0
 WriterHoldsAlone L =
     (i j : ℕ) →
@@ -28,8 +87,8 @@ WriterHoldsAlone L =
     L .seats j .about ≡ L .seats i .about →
     i ≡ j
 
--- Demand D3.2: A step that draws a ticket, which is a step of a slot that asks that is not answered full, is granted exactly when every
--- earlier conflicting ticket on that record has been released,
+-- Demand D3.2: A step draws a ticket if its slot asks and is not told full. It is granted if all earlier tickets of its record that
+-- conflict with its own are released, and only then;
 abbrev pub DrawnIsGrantedExactly : Ledger → (Call → Answer) → Type 0
 DrawnIsGrantedExactly L says =
     (i : ℕ) →
@@ -37,30 +96,31 @@ DrawnIsGrantedExactly L says =
     (says (Step i) ≡ Told Full → ⊥) →
     (says (Step i) ≡ Told Granted) ↔ EarlierReleased (mine L i) (L .seats i .kind) (length (mine L i))
 
--- Demand D3.3: and so is one that waits with a ticket.
+-- Demand D3.3: and so is a step of a slot that waits.
 abbrev pub WaitingIsGrantedExactly : Ledger → (Call → Answer) → Type 0
 WaitingIsGrantedExactly L says =
     (i : ℕ) →
     L .seats i .stage ≡ Waits →
     (says (Step i) ≡ Told Granted) ↔ EarlierReleased (mine L i) (L .seats i .kind) (L .seats i .place)
 
--- Demand D3.4: None is told that it has passed.
+-- Demand D3.4: No call is answered passed.
 abbrev pub NonePassed : (Call → Answer) → Type 0
 NonePassed says = (c : Call) → says c ≡ Told Passed → ⊥
 
--- Demand D3.5: A request that asks is turned away exactly when 32,768 tickets of one kind had been given on the record since it began or
--- was last cleared.
+-- Demand D3.5: A slot that asks is told full if its record has given 32,768 tickets to writers, or 32,768 to readers, since begin or its
+-- last clearing, and only then.
 abbrev pub FullExactly : Ledger → (Call → Answer) → Type 0
 FullExactly L says =
     (i : ℕ) →
     L .seats i .stage ≡ Asks →
     (says (Step i) ≡ Told Full) ↔ ((givenOf Writer (mine L i) ≡ 32768) ⊎ (givenOf Reader (mine L i) ≡ 32768))
 
--- No withdrawal is owed on a record.
+-- Nobody owes a withdrawal on a record.
 abbrev pub NoneOwed : Ledger → ℕ → Type 0
 NoneOwed L r = (j : ℕ) → L .seats j .stage ≡ Owes → L .seats j .about ≡ r → ⊥
 
--- Demand D3.6: Clearing happens only with no ticket unreleased and no withdrawal owed,
+-- Demand D3.6: A step is told cleared only if its slot is to clear, all tickets of its record are released and nobody owes a withdrawal
+-- there;
 abbrev pub ClearedOnly : Ledger → (Call → Answer) → Type 0
 ClearedOnly L says =
     (i : ℕ) →
@@ -76,13 +136,18 @@ ClearedThen L says =
     NoneOwed L (L .seats i .about) →
     says (Step i) ≡ Told Cleared
 
--- Demand D3.7: No counter of any of the n words exceeds 33,023.
+-- Demand D3.7: Every counter of the n words is 33,023 or less.
 abbrev pub CountersStaySmall : ℕ → State → Type 0
 CountersStaySmall n s = (r : ℕ) (k : Counter) → r < n → heldBy k (getD (s .words) r 0) ≤ 33023
 
--- The six parts of demand 3, of n words, a ledger, a board, and what it answers next. The second part is two fields, and one that is not
--- asked for stands beside the fifth.
+-- All of demand 3, of n words, a ledger, a board, and what it answers next: the first four fields say what the ledger is read as, the
+-- others are D3.1 to D3.7 of docs/RULES.md in order, and `cleared-then`, beside D3.6, is not asked for.
 pub record Demand (n : ℕ) (L : Ledger) (s : State) (says : Call → Answer) : Type 0 where
+  pub seat-has-its-ticket : SeatHasItsTicket L
+  pub ticket-has-its-seat : TicketHasItsSeat n L
+  pub told-by-stage : ToldByStage L says
+  pub opens-where-nobody-sits : OpensWhereNobodySits L says
+  pub never-more : NeverMore n L
   pub alone : WriterHoldsAlone L
   pub drawn-granted : DrawnIsGrantedExactly L says
   pub waiting-granted : WaitingIsGrantedExactly L says
@@ -92,6 +157,10 @@ pub record Demand (n : ℕ) (L : Ledger) (s : State) (says : Call → Answer) : 
   pub cleared-then : ClearedThen L says
   pub small : CountersStaySmall n s
 
--- From a fresh board of n words, over every sequence of calls.
+-- It holds on a fresh board of n words, and after whatever calls have been made on it.
 abbrev pub Demand3 : Type 0
 Demand3 = (n : ℕ) → 1 ≤ n → n ≤ 4096 → (ms : List Move) → Demand n (ledgerAfter n ms) (boardAfter n ms) (answerAfter n ms)
+
+-- A fresh board is what an accepted begin leaves, whatever was before.
+abbrev pub BegunIsFresh : Type 0
+BegunIsFresh = (s : State) → begun s .answer ≡ Begun → (1 ≤ length (s .words)) × (length (s .words) ≤ 4096) × (stateOf (begun s) ≡ fresh (length (s .words)))

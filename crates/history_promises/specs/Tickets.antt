@@ -14,7 +14,7 @@ pub record Given : Type 0 where
   pub slot : ℕ
   pub released : Bool
 
--- Rule 9.4: Two tickets conflict unless both are shared.
+-- Rule 9.4: Readers' tickets do not conflict with each other; any other two do.
 abbrev pub conflicts : Mode → Mode → Bool
 conflicts Reader Reader = false
 conflicts Reader Writer = true
@@ -22,11 +22,11 @@ conflicts Writer Reader = true
 conflicts Writer Writer = true
 
 -- The ticket at a place. Past the last there is none; this one stands for it.
-abbrev pub noTicket : Given
-noTicket = record { kind = Reader; slot = 0; released = true }
+abbrev pub pastTheLast : Given
+pastTheLast = record { kind = Reader; slot = 0; released = true }
 
 abbrev pub ticketAt : List Given → ℕ → Given
-ticketAt l i = getD l i noTicket
+ticketAt l i = getD l i pastTheLast
 
 abbrev pub sameKind : Mode → Mode → Bool
 sameKind Reader Reader = true
@@ -47,6 +47,6 @@ givenOf k l = counted (λ (t : Given). sameKind k (t .kind)) l
 abbrev pub EarlierReleased : List Given → Mode → ℕ → Type 0
 EarlierReleased l k i = (j : ℕ) → j < i → conflicts (ticketAt l j .kind) k ≡ true → ticketAt l j .released ≡ true
 
--- No ticket is unreleased.
+-- All tickets have been released.
 abbrev pub AllReleased : List Given → Type 0
 AllReleased l = (j : ℕ) → ticketAt l j .released ≡ true

@@ -1,12 +1,10 @@
--- Why a report is of a history: a run plays its records one by one, so its entries are those of the calls that it reads, and one run after the
--- other plays the calls of both.
+-- Why a report is of a history: a run comes to what its records come to (`RunPlaysItsRecords`), and one run after the other plays the calls of
+-- both.
 -- Assumes nothing.
 use Prim.Native.Nat.{ℕ, zero, suc, _+_, _-_, _*_, _<_}
 use mathlib.Core.Path.{_≡_, refl, ap, sym, _∙_}
-use mathlib.Core.Bool.{Bool, true, false}
 use mathlib.Core.List.{List, [], _∷_, _++_, append-assoc, map-append}
 use native.Mathlib.Omega.{arith}
-use lib.Dec.{ltb}
 use lib.ListN.{length, take, drop, length-append}
 use lib.Seq.{take-at, drop-append-add}
 use Rattle.board_call.specs.declared.Call.{Call}
@@ -14,17 +12,17 @@ use Rattle.board_rules.specs.Answers.{saidOf}
 use Rattle.board_rules.specs.declared.Said.{Said}
 use Rattle.board_rules.specs.Board.{State, stateOf, played}
 use Rattle.run_entry.specs.Entry.{ENTRY, entryOf}
-use Rattle.schedule_bytes.specs.Schedule.{nextOf}
-use Rattle.schedule_bytes.specs.declared.Next.{Next}
-use Rattle.schedule_bytes.specs.declared.Next.the-variants.{Record, End, Unknown, Cut}
-use Rattle.run_rules.specs.Run.{Whole, stateAfter, ended, followed, spent, goesOn, runOf}
+use Rattle.schedule_bytes.specs.Schedule.{callsFrom}
+use Rattle.run_rules.specs.Run.{runOf}
+use Rattle.run_rules.specs.Promises.{allPlayed, entriesFrom}
+use Rattle.run_rules.proofs.Plays.{run-plays-its-records}
 use Rattle.run_play.specs.Comes.{Comes}
 use Rattle.run_play.specs.declared.Ran.{Ran}
 use Rattle.history_promises.specs.History.{Move, fresh, after}
 use Rattle.history_promises.specs.History.Move.{Do}
 use Rattle.history_promises.proofs.Demand.{demand-3}
-use Rattle.history_reports.specs.Reports.{Runs, noRun, oneMore, entriesFrom, callsAt}
-use Rattle.history_reports.specs.Promises.{asMoves, callAt, ReportsAreOfHistories}
+use Rattle.history_reports.specs.Reports.{Runs, noRun, oneMore}
+use Rattle.history_reports.specs.Promises.{asMoves, nthCall, ReportsAreOfHistories}
 
 entry-long : (d : Said) → length (entryOf d) ≡ ENTRY
 unfolding entryOf
@@ -42,7 +40,7 @@ entries-long s (c ∷ cs) =
 entry-at :
     (s : State) (cs : List Call) (k : ℕ) →
     k < length cs →
-    take ENTRY (drop (ENTRY * k) (entriesFrom s cs)) ≡ entryOf (saidOf (callAt cs k) (played (callAt cs k) (after s (asMoves (take k cs))) .answer))
+    take ENTRY (drop (ENTRY * k) (entriesFrom s cs)) ≡ entryOf (saidOf (nthCall cs k) (played (nthCall cs k) (after s (asMoves (take k cs))) .answer))
 unfolding entriesFrom after
 entry-at s [] k h = absurd (omega arith)
 entry-at s (c ∷ cs) zero h =
@@ -69,48 +67,11 @@ entries-both s (c ∷ cs) ds =
     ap (λ (l : List ℕ). entryOf (saidOf c (played c s .answer)) ++ l) (entries-both (stateOf (played c s)) cs ds) ∙
     sym (append-assoc (entryOf (saidOf c (played c s .answer))) (entriesFrom (stateOf (played c s)) cs) (entriesFrom (after (stateOf (played c s)) (asMoves cs)) ds))
 
--- a run from a state plays some calls
-record Plays (bytes : List ℕ) (at : ℕ) (s : State) (w : Whole) : Type 0 where
-  calls : List Call
-  read : calls ≡ callsAt (w .records) bytes at
-  count : w .records ≡ length calls
-  board : stateAfter w ≡ after s (asMoves calls)
-  entries : w .entries ≡ entriesFrom s calls
-
-plays-none : (bytes : List ℕ) (h at : ℕ) (s : State) → Plays bytes at s (ended h at s)
-unfolding after entriesFrom callsAt
-plays-none bytes h at s = record { calls = []; read = refl; count = refl; board = refl; entries = refl }
-
-plays-one : (bytes : List ℕ) (at next : ℕ) (c : Call) (s : State) (w : Whole) → nextOf bytes at ≡ Record c next → Plays bytes next (stateOf (played c s)) w → Plays bytes at s (followed c (played c s .answer) w)
-unfolding after entriesFrom callsAt
-plays-one bytes at next c s w e p =
-    record {
-      calls = c ∷ p .calls;
-      read = rw e (ap (λ (l : List Call). c ∷ l) (p .read));
-      count = ap suc (p .count);
-      board = p .board;
-      entries = ap (λ (l : List ℕ). entryOf (saidOf c (played c s .answer)) ++ l) (p .entries);
-    }
-
-by-next : (bytes : List ℕ) (n : Next) (short : Bool) (at : ℕ) (s : State) (rest : ℕ → State → Whole) → nextOf bytes at ≡ n → ((next : ℕ) (t : State) → Plays bytes next t (rest next t)) → Plays bytes at s (goesOn n short at s rest)
-by-next b End short at s rest e i = plays-none b 0 at s
-by-next b Unknown true at s rest e i = plays-none b 12 at s
-by-next b Unknown false at s rest e i = plays-none b 8 at s
-by-next b Cut true at s rest e i = plays-none b 12 at s
-by-next b Cut false at s rest e i = plays-none b 7 at s
-by-next b (Record c next) true at s rest e i = plays-none b 12 at s
-by-next b (Record c next) false at s rest e i = plays-one b at next c s (rest next (stateOf (played c s))) e (i next (stateOf (played c s)))
-
-by-spent : (bytes : List ℕ) (n : Next) (at : ℕ) (s : State) → Plays bytes at s (spent n at s)
-by-spent b End at s = plays-none b 0 at s
-by-spent b (Record c next) at s = plays-none b 11 at s
-by-spent b Unknown at s = plays-none b 11 at s
-by-spent b Cut at s = plays-none b 11 at s
-
-run-plays : (a room : ℕ) (bytes : List ℕ) (at : ℕ) (s : State) → Plays bytes at s (runOf a room bytes at s)
-unfolding runOf
-run-plays zero room bytes at s = by-spent bytes (nextOf bytes at) at s
-run-plays (suc a) room bytes at s = by-next bytes (nextOf bytes at) (ltb room ENTRY) at s _ refl (λ next t. run-plays a (room - ENTRY) bytes next t)
+-- calls one after the other are a history's moves
+as-moves : (s : State) (cs : List Call) → allPlayed s cs ≡ after s (asMoves cs)
+unfolding allPlayed after
+as-moves s [] = refl
+as-moves s (c ∷ cs) = as-moves (stateOf (played c s)) cs
 
 -- what the contract says of a run
 abbrev boardOf : Ran → List ℕ → State
@@ -123,15 +84,19 @@ record Goes (s : State) (t : State) (calls : List Call) (entries : List ℕ) : T
 same-board : {a b : List _} {v w : List ℕ} → a ≡ b → v ≡ w → _≡_ {A = State} (record { slots = a; words = v }) (record { slots = b; words = w })
 same-board p q = cc
 
-goes : (s : State) (bytes : List ℕ) (at allowance : ℕ) (report : List ℕ) (r : Ran) (words′ report′ : List ℕ) → Comes (s .slots) (s .words) bytes at allowance report r words′ report′ → Goes s (boardOf r words′) (callsAt (r .records) bytes at) (take (ENTRY * r .records) report′)
+goes : (s : State) (bytes : List ℕ) (at allowance : ℕ) (report : List ℕ) (r : Ran) (words′ report′ : List ℕ) → Comes (s .slots) (s .words) bytes at allowance report r words′ report′ → Goes s (boardOf r words′) (callsFrom (r .records) bytes at) (take (ENTRY * r .records) report′)
 goes s bytes at allowance report r words′ report′ c =
     let w = runOf allowance (length report) bytes at s in
-    let p = run-plays allowance (length report) bytes at s in
-    let long : length (w .entries) ≡ ENTRY * r .records = ap length (p .entries) ∙ entries-long s (p .calls) ∙ ap (λ (n : ℕ). ENTRY * n) (sym (p .count) ∙ sym (c .records)) in
-    let these : p .calls ≡ callsAt (r .records) bytes at = p .read ∙ ap (λ (k : ℕ). callsAt k bytes at) (sym (c .records)) in
+    let p = run-plays-its-records allowance (length report) bytes at s in
+    let these : callsFrom (w .records) bytes at ≡ callsFrom (r .records) bytes at = ap (λ (k : ℕ). callsFrom k bytes at) (sym (c .records)) in
+    let long : length (w .entries) ≡ ENTRY * r .records =
+    ap length (p .reported) ∙ entries-long s (callsFrom (w .records) bytes at) ∙ ap (λ (n : ℕ). ENTRY * n) (p .count ∙ sym (c .records)) in
     record {
-      board = same-board (c .slots-after) (c .words-after) ∙ p .board ∙ ap (λ (l : List Call). after s (asMoves l)) these;
-      reported = ap (take (ENTRY * r .records)) (c .report-after) ∙ take-at (w .entries) (drop (length (w .entries)) report) (ENTRY * r .records) long ∙ p .entries ∙ ap (entriesFrom s) these;
+      board =
+          same-board (c .slots-after) (c .words-after) ∙ p .board ∙ ap (allPlayed s) these ∙ as-moves s (callsFrom (r .records) bytes at);
+      reported =
+          ap (take (ENTRY * r .records)) (c .report-after) ∙
+          take-at (w .entries) (drop (length (w .entries)) report) (ENTRY * r .records) long ∙ p .reported ∙ ap (entriesFrom s) these;
     }
 
 -- and so of one after the other

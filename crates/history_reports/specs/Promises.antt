@@ -11,13 +11,14 @@ use Rattle.run_entry.specs.Entry.{ENTRY, entryOf}
 use Rattle.history_promises.specs.History.{Move, fresh, boardAfter, ledgerAfter, answerAfter}
 use Rattle.history_promises.specs.History.Move.{Do}
 use Rattle.history_promises.specs.Promises.{Demand}
-use Rattle.history_reports.specs.Reports.{Runs, entriesFrom}
+use Rattle.run_rules.specs.Promises.{entriesFrom}
+use Rattle.history_reports.specs.Reports.{Runs}
 
 abbrev pub asMoves : List Call → List Move
 asMoves cs = map (λ (c : Call). Do c) cs
 
-abbrev pub callAt : List Call → ℕ → Call
-callAt cs k = getD cs k (Show 0)
+abbrev pub nthCall : List Call → ℕ → Call
+nthCall cs k = getD cs k (Show 0)
 
 -- The entries are those of a sequence of calls on the fresh board, and the board is the one that these calls leave. The k-th 12 bytes tell the
 -- answer to the k-th call after the k calls before it, and there demand 3 holds.
@@ -27,7 +28,7 @@ pub record OfAHistory (n : ℕ) (s : State) (calls : List Call) (entries : List 
   pub entry :
       (k : ℕ) →
       k < length calls →
-      take ENTRY (drop (ENTRY * k) entries) ≡ entryOf (saidOf (callAt calls k) (answerAfter n (asMoves (take k calls)) (callAt calls k)))
+      take ENTRY (drop (ENTRY * k) entries) ≡ entryOf (saidOf (nthCall calls k) (answerAfter n (asMoves (take k calls)) (nthCall calls k)))
   pub demand :
       (k : ℕ) →
       Demand n (ledgerAfter n (asMoves (take k calls))) (boardAfter n (asMoves (take k calls))) (answerAfter n (asMoves (take k calls)))

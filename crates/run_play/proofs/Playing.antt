@@ -18,7 +18,7 @@ use Rattle.board_slots.specs.Map.{mapOf, markedOf}
 use Rattle.board_slots.proofs.Promises.{mark-follows-store}
 use Rattle.board_call.specs.declared.Call.{Call}
 use Rattle.board_call.specs.declared.Call.the-variants.{Open, Step, Release, Show}
-use Rattle.board_rules.specs.Answers.{saidOf, sends, verbsOf}
+use Rattle.board_rules.specs.Answers.{saidOf, sendsVerb, verbsOf}
 use Rattle.board_rules.specs.Sent.{Visited}
 use Rattle.board_rules.specs.Visit.{aimOf, openVisit, visitOf}
 use Rattle.run_turn.specs.Turns.{reported}
@@ -128,7 +128,7 @@ spent-test records allowance h =
 
 verb-le : (c : Call) (a : Answer) → verbsOf c a ≤ 1
 unfolding verbsOf
-verb-le c a = at-most (sends c && eqb (saidOf c a .number) 0)
+verb-le c a = at-most (sendsVerb c && eqb (saidOf c a .number) 0)
   where
     at-most : (x : Bool) → (if x then 1 else 0) ≤ 1
     at-most true = omega arith

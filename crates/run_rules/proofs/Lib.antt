@@ -2,3 +2,4 @@ pub mod Wholes
 pub mod Runs
 pub mod TakenUp
 pub mod Examples
+pub mod Plays

@@ -18,14 +18,16 @@ use Rattle.schedule_bytes.specs.declared.Next.{Next}
 use Rattle.schedule_bytes.specs.declared.Next.the-variants.{Record, End, Unknown, Cut}
 use Rattle.schedule_bytes.proofs.Next as next-type
 use Rattle.run_rules.specs.Run.{Whole, ended, followed, spent, goesOn, runOf}
-use Rattle.run_rules.specs.Halts.{isEnd, haltedOf, leavesOf}
+use Rattle.run_rules.specs.Halts.{isEnd, haltedOf, leavesOf, HaltsWhereItEnds, LeavesWhereItEnds}
 
 -- the places of the answers other than a record among the variants
 abbrev pub others : List ℕ
 others = 1 ∷ 2 ∷ 3 ∷ []
 
-no-record : OneOf others 0 → ⊥
-no-record o = ⊎-elim (λ e. omega arith) (⊎-elim (λ e. omega arith) (λ e. omega arith)) o
+no-record : (n : Next) → OneOf others (tagOf next-type.the-type n) → (c : Call) (next : ℕ) → n ≡ Record c next → ⊥
+no-record n o c next e =
+    let z : OneOf others 0 = rw e at o in
+    ⊎-elim (λ f. omega arith) (⊎-elim (λ f. omega arith) (λ f. omega arith)) z
 
 module _ (at : ℕ) (s : State) where
   same-end : (m n : ℕ) → m ≡ n → ended m at s ≡ ended n at s
@@ -58,7 +60,7 @@ module _ (at : ℕ) (s : State) where
 
   leaves-short :
       (n : Next) (short : Bool) (rest : ℕ → State → Whole) →
-      OneOf others (tagOf next-type.the-type n) →
+      ((c : Call) (next : ℕ) → n ≡ Record c next → ⊥) →
       haltedOf (isEnd n) false short ≡ 0 →
       goesOn n short at s rest ≡ ended (leavesOf n) at s
   leaves-short End short rest o e = refl
@@ -67,7 +69,7 @@ module _ (at : ℕ) (s : State) where
   leaves-short Cut true rest o e = absurd (omega arith)
   leaves-short Cut false rest o e = refl
   leaves-short (Record c next) true rest o e = absurd (omega arith)
-  leaves-short (Record c next) false rest o e = absurd (no-record o)
+  leaves-short (Record c next) false rest o e = absurd (o c next refl)
 
   plays-short :
       (c : Call) (next : ℕ) (short : Bool) (rest : ℕ → State → Whole) →
@@ -86,14 +88,21 @@ module _ (bytes : List ℕ) (at : ℕ) (s : State) (room : ℕ) where
   halts zero h e ne = halts-spent at s (nextOf bytes at) (ltb room 12) h e ne
   halts (suc a) h e ne = halts-short at s (nextOf bytes at) (ltb room 12) h _ (rw (eqb·suc-zero a) at e) ne
 
+  leaves-none :
+      (a : ℕ) →
+      ((c : Call) (next : ℕ) → nextOf bytes at ≡ Record c next → ⊥) →
+      haltedOf (isEnd (nextOf bytes at)) (eqb a 0) (ltb room 12) ≡ 0 →
+      runOf a room bytes at s ≡ ended (leavesOf (nextOf bytes at)) at s
+  unfolding runOf
+  leaves-none zero o e = leaves-spent at s (nextOf bytes at) (ltb room 12) e
+  leaves-none (suc a) o e = leaves-short at s (nextOf bytes at) (ltb room 12) _ o (rw (eqb·suc-zero a) at e)
+
   pub leaves :
       (a : ℕ) →
       OneOf others (tagOf next-type.the-type (nextOf bytes at)) →
       haltedOf (isEnd (nextOf bytes at)) (eqb a 0) (ltb room 12) ≡ 0 →
       runOf a room bytes at s ≡ ended (leavesOf (nextOf bytes at)) at s
-  unfolding runOf
-  leaves zero o e = leaves-spent at s (nextOf bytes at) (ltb room 12) e
-  leaves (suc a) o e = leaves-short at s (nextOf bytes at) (ltb room 12) _ o (rw (eqb·suc-zero a) at e)
+  leaves a o e = leaves-none a (no-record (nextOf bytes at) o) e
 
   pub plays :
       (a : ℕ) (c : Call) (next : ℕ) →
@@ -106,3 +115,9 @@ module _ (bytes : List ℕ) (at : ℕ) (s : State) (room : ℕ) where
       let z : haltedOf false false (ltb room 12) ≡ 0 = rw (n, eqb·suc-zero a) at e in
       let less : suc a - 1 ≡ a = omega arith in
       (rw (n, less) (plays-short at s c next (ltb room 12) _ z), (omega arith, room-left room (ltb room 12) refl z))
+
+pub halts-where-it-ends : HaltsWhereItEnds
+halts-where-it-ends a room bytes at s ne = halts bytes at s room a _ refl ne
+
+pub leaves-where-it-ends : LeavesWhereItEnds
+leaves-where-it-ends a room bytes at s e none = leaves-none bytes at s room a none e

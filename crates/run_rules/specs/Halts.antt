@@ -1,9 +1,18 @@
--- The two tests before a record as the code makes them, on what stands at its place. `Runs` in proofs/ says that they are the order of `Run`.
+-- A mirror of `Run`: the two tests before a record as the code makes them, on what stands at its place. Nothing here needs belief: the two
+-- statements at the end say that a run ends where they say, with their number.
 use Prim.Native.Nat.{ℕ}
+use mathlib.Core.Path.{_≡_}
 use mathlib.Core.Bool.{Bool, true, false}
+use mathlib.Core.List.{List}
+use lib.Dec.{eqb, ltb}
 use Rattle.common.specs.Choice.{if_then_else_}
+use Rattle.board_call.specs.declared.Call.{Call}
+use Rattle.board_rules.specs.Board.{State}
+use Rattle.schedule_bytes.specs.Schedule.{nextOf}
 use Rattle.schedule_bytes.specs.declared.Next.{Next}
 use Rattle.schedule_bytes.specs.declared.Next.the-variants.{Record, End, Unknown, Cut}
+use Rattle.run_entry.specs.Entry.{ENTRY}
+use Rattle.run_rules.specs.Run.{ended, runOf}
 
 abbrev pub isEnd : Next → Bool
 isEnd End = true
@@ -21,3 +30,21 @@ leavesOf End = 0
 leavesOf (Record c next) = 0
 leavesOf Unknown = 8
 leavesOf Cut = 7
+
+-- The number that stops a run with so much allowance and room before what stands at a place, 0 where neither does.
+abbrev pub haltedAt : ℕ → ℕ → List ℕ → ℕ → ℕ
+haltedAt a room bytes at = haltedOf (isEnd (nextOf bytes at)) (eqb a 0) (ltb room ENTRY)
+
+-- Where that number is not 0 the run ends with it,
+abbrev pub HaltsWhereItEnds : Type 0
+HaltsWhereItEnds =
+    (a room : ℕ) (bytes : List ℕ) (at : ℕ) (s : State) →
+    (haltedAt a room bytes at ≡ 0 → ⊥) → runOf a room bytes at s ≡ ended (haltedAt a room bytes at) at s
+
+-- and where it is 0 and no record stands there, with what is left.
+abbrev pub LeavesWhereItEnds : Type 0
+LeavesWhereItEnds =
+    (a room : ℕ) (bytes : List ℕ) (at : ℕ) (s : State) →
+    haltedAt a room bytes at ≡ 0 →
+    ((c : Call) (next : ℕ) → nextOf bytes at ≡ Record c next → ⊥) →
+    runOf a room bytes at s ≡ ended (leavesOf (nextOf bytes at)) at s

@@ -3,7 +3,7 @@
 ghost use mathlib.Core.Path.{_≡_};
 ghost use Rattle.board_call.specs.declared.Call.the-variants.{Open};
 ghost use Rattle.board_rules.specs.Visit.{visitOf, openVisit};
-ghost use Rattle.run_turn.specs.Turns.{reported, turned};
+ghost use Rattle.run_turn.specs.Turns.{reported, turnLeaves};
 use agent_request::Request;
 use board_call::Call;
 
@@ -22,7 +22,7 @@ pub fn turn(
     report: &mut [u8],
     at: usize,
 ) -> Turned
-    ensures handed { λ r. ⌜ r ≡ turned c (visitOf c i q (now (words .entry))) ⌝ }
+    ensures handed { λ r. ⌜ r ≡ turnLeaves c (visitOf c i q (now (words .entry))) ⌝ }
     ensures left { λ r. ⌜ now (words .exit) ≡ visitOf c i q (now (words .entry)) .words ⌝ }
     ensures told { λ r. ⌜ now (report .exit) ≡ reported (now (report .entry)) at c (visitOf c i q (now (words .entry))) ⌝ }
 {

@@ -1,6 +1,6 @@
 -- Schedules in bytes: one byte of kind, then a body whose length the kind fixes.
-use Prim.Native.Nat.{ℕ, _+_, _*_, _-_}
-use mathlib.Core.List.{List}
+use Prim.Native.Nat.{ℕ, zero, suc, _+_, _*_, _-_}
+use mathlib.Core.List.{List, [], _∷_}
 use lib.Dec.{eqb, ltb, leb}
 use lib.ListN.{length, getD}
 use Rattle.common.specs.Choice.{if_then_else_}
@@ -48,3 +48,25 @@ nextOf s at =
     if eqb (bodyOf (byteAt s at)) 0 then Unknown else
     if ltb (length s - (at + 1)) (bodyOf (byteAt s at)) then Cut else
     Record (callAt (byteAt s at) s (at + 1)) (at + 1 + bodyOf (byteAt s at))
+
+-- The first n calls from a place on: they stop where no whole record stands.
+abbrev pub callThen : Next → (ℕ → List Call) → List Call
+callThen (Record c next) rest = c ∷ rest next
+callThen End rest = []
+callThen Unknown rest = []
+callThen Cut rest = []
+
+unfoldable pub callsFrom : ℕ → List ℕ → ℕ → List Call
+callsFrom zero s at = []
+callsFrom (suc n) s at = callThen (nextOf s at) (callsFrom n s)
+
+-- The place behind them.
+abbrev pub placeThen : Next → ℕ → (ℕ → ℕ) → ℕ
+placeThen (Record c next) at rest = rest next
+placeThen End at rest = at
+placeThen Unknown at rest = at
+placeThen Cut at rest = at
+
+unfoldable pub placeBehind : ℕ → List ℕ → ℕ → ℕ
+placeBehind zero s at = at
+placeBehind (suc n) s at = placeThen (nextOf s at) at (placeBehind n s)

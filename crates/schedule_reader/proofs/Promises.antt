@@ -8,10 +8,11 @@ use denote.Ref.{now}
 use Rattle.board_call.specs.declared.Call.{Call}
 use Rattle.schedule_bytes.specs.declared.Next.{Next}
 use Rattle.schedule_bytes.specs.declared.Next.the-variants.{Record, End, Unknown, Cut}
+use Rattle.schedule_bytes.specs.Schedule.{callThen, callsFrom}
 use Rattle.schedule_bytes.proofs.Bodies.{kind-fixes-length}
 use Rattle.schedule_reader.specs.declared.Reader.{Reader}
 use Rattle.schedule_reader.specs.Reading.{placeAfter, atPlace, movedOn, callIn, readings}
-use Rattle.schedule_reader.specs.Promises.{goesOn, recordsFrom, HandsOutTheRecords, RecordMovesThePlace, NothingLeavesIt}
+use Rattle.schedule_reader.specs.Promises.{HandsOutTheRecords, RecordMovesThePlace, NothingLeavesIt}
 
 abbrev at-place : Reader → ℕ → Reader
 at-place r n = record { src = r .src; at = n }
@@ -38,16 +39,16 @@ still (suc n) r e = ap (λ (l : List Call). l ++ readings n (movedOn r)) e ∙ (
 -- one reading, and then n more
 one-more :
     (n : ℕ) (r : Reader) →
-    ((q : Reader) → readings n q ≡ recordsFrom n (now (q .src)) (q .at)) →
+    ((q : Reader) → readings n q ≡ callsFrom n (now (q .src)) (q .at)) →
     (x : Next) →
     atPlace r ≡ x →
-    callIn x ++ readings n (at-place r (placeAfter x (r .at))) ≡ goesOn x (recordsFrom n (now (r .src)))
+    callIn x ++ readings n (at-place r (placeAfter x (r .at))) ≡ callThen x (callsFrom n (now (r .src)))
 one-more n r rest (Record c next) e = ap (λ (l : List Call). c ∷ l) (rest (at-place r next))
 one-more n r rest End e = still n r (ap callIn e)
 one-more n r rest Unknown e = still n r (ap callIn e)
 one-more n r rest Cut e = still n r (ap callIn e)
 
 pub hands-out-the-records : HandsOutTheRecords
-unfolding readings recordsFrom
+unfolding readings callsFrom
 hands-out-the-records zero r = refl
 hands-out-the-records (suc n) r = one-more n r (hands-out-the-records n) (atPlace r) refl

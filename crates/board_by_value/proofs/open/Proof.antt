@@ -6,11 +6,8 @@ use mathlib.Core.Path.{subst}
 use denote.Ref.{now}
 use lib.ListN.{length-map}
 use Rattle.board_call.specs.declared.Call.the-variants.{Open}
-use Rattle.board_rules.specs.Visit.{aimOf, visitOf}
-use Rattle.board_rules.specs.Board.{Done, slotAt}
-use Rattle.board_rules.specs.Leaves.{lentTo}
-use Rattle.board_rules.specs.Visit.{stored}
-use Rattle.board_rules.proofs.Visits.{visit-is-played, aim-small}
+use Rattle.board_rules.specs.Visit.{aimOf}
+use Rattle.board_rules.proofs.Visits.{by-visit, aim-small}
 use borrow.Author.Needs.{needs}
 use Rattle.board_by_value.proofs.open.Statement.{statement}
 use Rattle.board_by_value.proofs.open.Tie as tie
@@ -30,15 +27,10 @@ same-length c = search needs
 returns : tie.Need-returns
 returns c =
     let a = c .before .before .before .before .before .before .before .args in
-    let s = lentTo (a .b) (now (a .words)) in
-    let p = c .before .before .placed in
-    let e = visit-is-played (Open (a .«record») (a .mode)) s (sym (length-map (a .b .slots) _) ∙ c .before .before .before .before .before .before .before .good .0 .1 .1 .0 .1 .0 .1) ∙
-    ap (λ (i : ℕ). stored s i (visitOf (Open (a .«record») (a .mode)) i (slotAt s i) (now (a .words)))) (sym (c .before .before .before .before .aim .ensures ∙ ap (aimOf (Open (a .«record») (a .mode))) (c .before .before .before .before .before .map-of .ensures))) in
-    record {
-      slots = p .ensures .slots ∙ sym (ap (λ (d : Done). d .slots) e);
-      answer = p .ensures .answer ∙ sym (ap (λ (d : Done). d .answer) e);
-      words = p .ensures .words ∙ sym (ap (λ (d : Done). d .words) e);
-    }
+    by-visit (Open (a .«record») (a .mode)) (a .b) (now (a .words)) _ _ _
+    (sym (length-map (a .b .slots) _) ∙ c .before .before .before .before .before .before .before .good .0 .1 .1 .0 .1 .0 .1)
+    (c .before .before .before .before .aim .ensures ∙ ap (aimOf (Open (a .«record») (a .mode))) (c .before .before .before .before .before .map-of .ensures))
+    (c .before .before .placed .ensures)
 
 pub open-spec : {M : Type 1} → statement M
 open-spec = tie.close (tie.spec map-of-requires aim-requires placed-requires same-length returns)

@@ -2,13 +2,13 @@
 -- Assumes nothing.
 use borrow.Author.Tests.{le-ltb, lt-ltb}
 use mathlib.Core.Bool.{and-false}
-use Rattle.board_rules.specs.Board.{shown}
+use Rattle.board_rules.specs.Board.{shownOf}
 use borrow.Author.Needs.{needs}
 use Rattle.board_views.proofs.show.Statement.{statement}
 use Rattle.board_views.proofs.show.Tie as tie
 
 returns : tie.Need-returns
-unfolding shown
+unfolding shownOf
 returns c = simp (le-ltb _ _ (c .if1 .taken), and-false)
 
 mul-t6 : tie.Need-mul-t6
@@ -18,11 +18,11 @@ shared-slice-read-t8 : tie.Need-shared-slice-read-t8
 shared-slice-read-t8 c = search needs
 
 returns-2 : tie.Need-returns-2
-unfolding shown
+unfolding shownOf
 returns-2 c = simp (lt-ltb _ _ (c .before .if2 .taken), lt-ltb _ _ (c .before .before .if1 .left))
 
 returns-3 : tie.Need-returns-3
-unfolding shown
+unfolding shownOf
 returns-3 c = simp (le-ltb _ _ (c .if2 .left))
 
 pub show-spec : {M : Type 1} → statement M

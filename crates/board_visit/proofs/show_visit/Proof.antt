@@ -4,6 +4,7 @@ use mathlib.Core.Path.{_∙_, sym}
 use native.Mathlib.Omega.{arith}
 use denote.Ref.{now}
 use lib.ListN.{length}
+use Rattle.board_rules.specs.Board.{shownOf}
 use Rattle.board_rules.specs.Visit.{showVisit}
 use Rattle.board_rules.proofs.Sent.{record-small, record-lent}
 use borrow.Author.Needs.{needs}
@@ -20,14 +21,14 @@ shared-slice-read-t9 : tie.Need-shared-slice-read-t9
 shared-slice-read-t9 c = record-lent _ (now (c .before .before .before .before .args .words)) (sym (c .before .before .is-record .ensures) ∙ c .before .if1 .taken)
 
 returns : tie.Need-returns
-unfolding showVisit
+unfolding showVisit shownOf
 returns c = simp (sym (c .before .before .is-record .ensures) ∙ c .before .if1 .taken)
 
 refused-requires : tie.Need-refused-requires
 refused-requires c κs = search needs
 
 returns-2 : tie.Need-returns-2
-unfolding showVisit
+unfolding showVisit shownOf
 returns-2 c = simp (sym (c .before .before .is-record .ensures) ∙ c .before .if1 .left, c .refused .ensures)
 
 pub show-visit-spec : {M : Type 1} → statement M

@@ -10,7 +10,7 @@ use Rattle.board_rules.specs.Sent.{Visited, handed}
 use Rattle.board_rules.specs.Visit.{visitOf}
 use Rattle.board_rules.specs.declared.Seen.{Seen}
 use Rattle.run_entry.specs.Entry.{putOf}
-use Rattle.run_turn.specs.Turns.{turned}
+use Rattle.run_turn.specs.Turns.{turnLeaves}
 use Rattle.run_turn.specs.declared.Turned.{Turned}
 use Rattle.run_turn.proofs.turn.Statement.{statement}
 use Rattle.run_turn.proofs.turn.Tie as tie
@@ -34,7 +34,7 @@ same-length-2 : tie.Need-same-length-2
 same-length-2 c = search needs
 
 -- what is handed back of a visit that was seen as d
-handed-back : (c : Call) (v : Visited) (d : Seen) (n : ℕ) → d ≡ handed v → n ≡ verbsOf c (d .answer) → _≡_ {A = Turned} (record { request = d .request; verbs = n }) (turned c v)
+handed-back : (c : Call) (v : Visited) (d : Seen) (n : ℕ) → d ≡ handed v → n ≡ verbsOf c (d .answer) → _≡_ {A = Turned} (record { request = d .request; verbs = n }) (turnLeaves c v)
 handed-back c v d n e f =
     ap (λ (k : ℕ). record { request = d .request; verbs = k }) f ∙ ap (λ (s : Seen). record { request = s .request; verbs = verbsOf c (s .answer) }) e
 
