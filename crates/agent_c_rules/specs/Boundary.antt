@@ -14,7 +14,7 @@ use Rattle.agent_c_rules.specs.declared.CTold.{CTold}
 use Rattle.agent_c_rules.specs.declared.Moved.{Moved}
 use Rattle.agent_c_rules.specs.declared.Asked.{Asked}
 
--- The kinds of verb: 0 none, 1 add with its number, 2 read, 3 swap with the old word and the new one. A number that is not used is 0.
+-- Decision 33: the kinds of verb: 0 none, 1 add with its number, 2 read, 3 swap with the old word and the new one. A number that is not used is 0.
 abbrev pub verbOf : Verb → CVerb
 verbOf verb.Nothing = record { kind = 0; first = 0; second = 0 }
 verbOf (verb.Add k) = record { kind = 1; first = k; second = 0 }
@@ -33,7 +33,7 @@ movedOf t = record { request = t .request; told = toldOf (t .answer) }
 abbrev refusedBy : ℕ → Request → Asked
 refusedBy n q = record { request = q; number = n }
 
--- A request that is to ask: mode 0 or 1, else 3; not in use, else 5; then it is the opened one, and 0.
+-- Decision 33: a request that is to ask: mode 0 or 1, else 3; not in use, else 5; then it is the opened one, and 0.
 abbrev pub askedOf : Request → ℕ → ℕ → Asked
 askedOf q r m =
     if ltb 1 m then refusedBy 3 q else

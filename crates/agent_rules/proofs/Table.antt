@@ -1,11 +1,14 @@
 -- Why the agent refuses exactly with 5 and exactly in a wrong phase: by phase, and whatever came back every other answer is accepted.
 -- Assumes nothing.
-use Prim.Native.Nat.{ℕ, _<_}
-use mathlib.Core.Path.{_≡_, refl, sym, _∙_}
+use Prim.Native.Nat.{ℕ, suc, _<_, _≤_}
+use mathlib.Core.Path.{_≡_, refl, ap, sym, subst, _∙_}
 use mathlib.Core.Bool.{Bool, true, false, not, _||_}
-use lib.Dec.{eqb}
+use mathlib.Core.Logic.{_⊎_, inl, inr, ⊎-elim}
+use native.Mathlib.Omega.{arith}
+use borrow.Author.Tests.{ne-eqb, lt-ltb, ltb-true, ltb-false}
+use lib.Dec.{eqb, ltb}
 use Rattle.common.specs.Choice.{if_then_else_}
-use Rattle.common.proofs.Choices.{either}
+use Rattle.common.proofs.Choices.{either, same-or-not}
 use Rattle.common.proofs.Tables.{numberIn, gives-it, it-gives}
 use Rattle.word_layout.specs.Word.{splitOf}
 use Rattle.word_layout.specs.declared.Counters.{Counters}
@@ -19,8 +22,70 @@ use Rattle.agent_request.specs.declared.Phase.{Phase}
 use Rattle.agent_request.specs.declared.Phase.the-variants.{Free, Asking, Waiting, Held, Owing, Clearing}
 use Rattle.agent_rules.specs.Answers.{numbersOf}
 use Rattle.agent_rules.specs.Life.{turned, waited, ticketed, asked, stepTakes, stepTakesIn, releaseTakes, releaseTakesIn}
-use Rattle.agent_rules.specs.Table.{heldPhase, stepLines, releaseLines, StepRefusedExactly, ReleaseRefusedExactly}
+use Rattle.agent_rules.specs.Table.{isFree, isHeld, stepLines, releaseLines, StepRefusedExactly, ReleaseRefusedExactly, StepRefusedKeeps, ReleaseRefusedKeeps}
 use Rattle.agent_rules.specs.declared.Taken.{Taken}
+
+-- Held, by phase
+abbrev pub heldPhase : Phase → Bool
+heldPhase Free = false
+heldPhase Asking = false
+heldPhase Waiting = false
+heldPhase Held = true
+heldPhase Owing = false
+heldPhase Clearing = false
+
+-- the kept number says the same: by which of 1 to 5 it is, or none
+record Same (n : ℕ) : Type 0 where
+  free : not (usedPhase (phaseOf n)) ≡ (eqb n 0 || ltb 5 n)
+  held : heldPhase (phaseOf n) ≡ eqb n 3
+
+above : (n : ℕ) → 5 < n → Same n
+above n h =
+    let a = ne-eqb n 1 (λ e. omega arith) in
+    let b = ne-eqb n 2 (λ e. omega arith) in
+    let c = ne-eqb n 3 (λ e. omega arith) in
+    let d = ne-eqb n 4 (λ e. omega arith) in
+    let f = ne-eqb n 5 (λ e. omega arith) in
+    let z = ne-eqb n 0 (λ e. omega arith) in
+    record { free = rw (a, b, c, d, f, z, lt-ltb 5 n h) refl; held = rw (a, b, c, d, f) refl }
+
+same : (n : ℕ) → Same n
+same n = ⊎-elim (λ h. above n h) (λ h. small n h) (or-below n)
+  where
+    or-below : (m : ℕ) → (5 < m) ⊎ (m ≤ 5)
+    or-below m = by (ltb 5 m) refl
+      where
+        by : (x : Bool) → ltb 5 m ≡ x → (5 < m) ⊎ (m ≤ 5)
+        by true e = inl (ltb-true 5 m e)
+        by false e = inr (ltb-false 5 m e)
+
+    is : (k m : ℕ) → Same k → m ≡ k → Same m
+    is k m s e = subst Same (sym e) s
+
+    less : (k m : ℕ) → m ≤ suc k → (m ≡ suc k → ⊥) → m ≤ k
+    less k m h ne = by (ltb k m) refl
+      where
+        by : (x : Bool) → ltb k m ≡ x → m ≤ k
+        by true e = let l = ltb-true k m e in absurd (ne (omega arith))
+        by false e = ltb-false k m e
+
+    -- down from k: m is k, or is less
+    down : (k m : ℕ) → m ≤ suc k → Same (suc k) → (m ≤ k → Same m) → Same m
+    down k m h s rest = ⊎-elim (is (suc k) m s) (λ ne. rest (less k m h ne)) (same-or-not m (suc k))
+
+    small : (m : ℕ) → m ≤ 5 → Same m
+    small m h =
+        down 4 m h (record { free = refl; held = refl })
+        (λ a. down 3 m a (record { free = refl; held = refl })
+        (λ b. down 2 m b (record { free = refl; held = refl })
+        (λ c. down 1 m c (record { free = refl; held = refl })
+        (λ d. down 0 m d (record { free = refl; held = refl }) (λ e. is 0 m (record { free = refl; held = refl }) (omega arith))))))
+
+pub free-as-kept : (q : Request) → not (usedPhase (phaseOf (q .phase))) ≡ isFree q
+free-as-kept q = same (q .phase) .free
+
+pub held-as-kept : (q : Request) → heldPhase (phaseOf (q .phase)) ≡ isHeld q
+held-as-kept q = same (q .phase) .held
 
 -- what the agent tells is accepted
 pub record Accepted (t : Taken) : Type 0 where
@@ -58,11 +123,38 @@ release-number Clearing q = refl
 pub step-refused-exactly : StepRefusedExactly
 unfolding stepTakes
 step-refused-exactly q v n h =
-    let e = step-number (phaseOf (q .phase)) q v in
+    let e = step-number (phaseOf (q .phase)) q v ∙
+    ap (λ (x : Bool). if x || heldPhase (phaseOf (q .phase)) then 5 else 0) (free-as-kept q) ∙
+    ap (λ (x : Bool). if isFree q || x then 5 else 0) (held-as-kept q) in
     (λ p. gives-it n h (stepLines q) (sym e ∙ p), λ g. e ∙ it-gives n (stepLines q) g)
 
 pub release-refused-exactly : ReleaseRefusedExactly
 unfolding releaseTakes
 release-refused-exactly q v n h =
-    let e = release-number (phaseOf (q .phase)) q in
+    let e = release-number (phaseOf (q .phase)) q ∙ ap (λ (x : Bool). if not x then 5 else 0) (held-as-kept q) in
     (λ p. gives-it n h (releaseLines q) (sym e ∙ p), λ g. e ∙ it-gives n (releaseLines q) g)
+
+-- a refused request stays
+step-keeps : (p : Phase) (q : Request) (v : ℕ) → 0 < numbersOf (stepTakesIn p q v .answer) .number → stepTakesIn p q v .request ≡ q
+step-keeps Free q v h = refl
+step-keeps Asking q v h = let e = step-number Asking q v in absurd (omega arith)
+step-keeps Waiting q v h = let e = step-number Waiting q v in absurd (omega arith)
+step-keeps Held q v h = refl
+step-keeps Owing q v h = let e = step-number Owing q v in absurd (omega arith)
+step-keeps Clearing q v h = let e = step-number Clearing q v in absurd (omega arith)
+
+release-keeps : (p : Phase) (q : Request) → 0 < numbersOf (releaseTakesIn p q .answer) .number → releaseTakesIn p q .request ≡ q
+release-keeps Free q h = refl
+release-keeps Asking q h = refl
+release-keeps Waiting q h = refl
+release-keeps Held q h = let e = release-number Held q in absurd (omega arith)
+release-keeps Owing q h = refl
+release-keeps Clearing q h = refl
+
+pub step-refused-keeps : StepRefusedKeeps
+unfolding stepTakes
+step-refused-keeps q v h = step-keeps (phaseOf (q .phase)) q v h
+
+pub release-refused-keeps : ReleaseRefusedKeeps
+unfolding releaseTakes
+release-refused-keeps q v h = release-keeps (phaseOf (q .phase)) q h

@@ -7,7 +7,7 @@ use Rattle.board_rules.specs.Board.{Done, begun}
 use Rattle.run_rules.specs.Run.{Whole, reportOf}
 use Rattle.run_play.specs.Comes.{wholeOf}
 
--- More records than any report has room for: 2 to the power of 40.
+-- 2 to the power of 40 records.
 abbrev pub ENOUGH : ℕ
 ENOUGH = 1099511627776
 

@@ -15,18 +15,12 @@ use lib.Pow.{pow-mono}
 use lib.ListN.{length, getD, set, take, drop, length-take, length-drop, take-append-drop, length-set, drop-of-length-le}
 use lib.Seq.{drop-drop, drop-set-add, drop-set-lt, take-set-lt, take-set-le, ext-getD, getD-set-same, getD-set-other, getD-take, getD-drop}
 use Rattle.common.specs.Choice.{if_then_else_}
+use Rattle.common.proofs.Choices.{same-or-not}
 use Rattle.agent_request.specs.declared.Request.{Request}
 use Rattle.agent_request.specs.Request.{inUse, freeRequest}
 use Rattle.board_slots.specs.Slots.{lowestFree, usedSlots}
 use Rattle.board_slots.specs.Map.{bitOf, bitsOf, partOf, mapOf, ALL, lowestZero, onesOf, plus, markedOf}
 use Rattle.board_slots.proofs.Bits.{used-or-free, used-bit, free-bit, bits-lt, zeros-lowest, lowest-le, all-used, lowest-within, lowest-past, ones-used, used-append, bits-set}
-
-same-or-not : (m n : ℕ) → (m ≡ n) ⊎ (m ≡ n → ⊥)
-same-or-not m n = by (eqb m n) refl
-  where
-    by : (x : Bool) → eqb m n ≡ x → (m ≡ n) ⊎ (m ≡ n → ⊥)
-    by true e = inl (eqb-true m n e)
-    by false e = inr (eqb-false m n e)
 
 -- 64 slots and the rest: the lowest free slot is among the 64, or after them
 first-part :

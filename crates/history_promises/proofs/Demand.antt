@@ -12,7 +12,7 @@ use lib.Dec.{eqb, leb, ltb}
 use lib.ListN.{length, take}
 use lib.Seq.{take-append-seam, take-length}
 use Rattle.common.specs.Choice.{if_then_else_}
-use Rattle.common.proofs.Choices.{either-by}
+use Rattle.common.proofs.Choices.{either-by, same-or-not}
 use Rattle.agent_ticket.specs.declared.Mode.{Mode}
 use Rattle.agent_ticket.specs.declared.Mode.the-variants.{Reader, Writer}
 use Rattle.agent_rules.specs.declared.Answer.{Answer as Tells}
@@ -31,7 +31,7 @@ use Rattle.history_promises.specs.Promises.{OpenTells, OpensWhereNobodyS
 use Rattle.history_promises.proofs.Counts.{clash, true-or-false, below-none, none-below}
 use Rattle.history_promises.proofs.Turns.{aheadNow, ahead-earlier, earlier-ahead}
 use Rattle.history_promises.proofs.Words.{topped, topped-or, or-topped, clearingFor, wordAtRest, at-rest, rests, counters-small}
-use Rattle.history_promises.proofs.Tied.{Facts, isOwing, owesOn, Tied, few-owed, same-or-not}
+use Rattle.history_promises.proofs.Tied.{Facts, isOwing, owesOn, Tied, few-owed}
 use Rattle.history_promises.proofs.Sent.{went, step-nobody, step-holds, step-owes, step-clears, step-waits, step-asks-full, step-asks-turn, release-nobody, release-asks, release-waits, release-owes, release-clears, release-holds}
 use Rattle.history_promises.proofs.Moves.{wordNow, clearing-last, owes-here}
 use Rattle.history_promises.proofs.Kept.{nobody-there, keeps-at, tied}

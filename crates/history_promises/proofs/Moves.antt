@@ -12,6 +12,7 @@ use lib.Dec.{eqb}
 use lib.ListN.{length, getD, length-set, length-append, List·getD-append}
 use lib.Seq.{getD-append-seam, getD-set-same, getD-set-other}
 use Rattle.word_layout.specs.Word.{stepOf, backOf, addOf}
+use Rattle.common.proofs.Choices.{same-or-not}
 use Rattle.agent_ticket.specs.declared.Mode.{Mode}
 use Rattle.agent_ticket.specs.declared.Mode.the-variants.{Reader, Writer}
 use Rattle.agent_request.specs.Request.{freeRequest}
@@ -25,7 +26,7 @@ use Rattle.history_promises.specs.Ledger.{Stage, Seat, Ledger, free, put
 use Rattle.history_promises.specs.Ledger.Stage.{Asks, Waits, Holds, Owes, Clears}
 use Rattle.history_promises.proofs.Counts.{one, clash, counted-nil, below-put}
 use Rattle.history_promises.proofs.Words.{Agrees, topped, clearingFor, wordAtRest, agrees-same, agrees-drawn, agrees-owed, agrees-back, agrees-released, agrees-empty, topped-set, at-rest, rest-is-some}
-use Rattle.history_promises.proofs.Tied.{withTicket, requestFor, Owns, Closes, Facts, isNobody, hasTicket, mayClear, isOwing, Sits, Owner, Last, owesOn, owed, Tied, few-owed, OnlyOn, tied-after, same-or-not}
+use Rattle.history_promises.proofs.Tied.{withTicket, requestFor, Owns, Closes, Facts, isNobody, hasTicket, mayClear, isOwing, Sits, Owner, Last, owesOn, owed, Tied, few-owed, OnlyOn, tied-after}
 use Rattle.history_promises.proofs.Others.{others-given, others-released, others-cleared, other-at, this-at, long-at, closes-released}
 use Rattle.history_promises.proofs.Sent.{wentTo}
 

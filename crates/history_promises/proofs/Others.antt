@@ -11,6 +11,7 @@ use borrow.Author.Tests.{ltb-true, ltb-false, ne-eqb}
 use lib.Dec.{eqb, ltb}
 use lib.ListN.{length, take, length-append, length-set, List·getD-append}
 use lib.Seq.{take-append-le, take-set-le, take-set-lt, getD-take, getD-set-same, getD-set-other, length-take-le}
+use Rattle.common.proofs.Choices.{same-or-not}
 use Rattle.common.specs.Choice.{if_then_else_}
 use Rattle.agent_ticket.specs.declared.Mode.{Mode}
 use Rattle.agent_ticket.specs.declared.Mode.the-variants.{Reader, Writer}
@@ -24,7 +25,7 @@ use Rattle.history_promises.proofs.Counts.{clash}
 use Rattle.history_promises.proofs.Order.{given-set}
 use Rattle.history_promises.proofs.Turns.{ticketOf}
 use Rattle.history_promises.proofs.Words.{topped, clearingFor}
-use Rattle.history_promises.proofs.Tied.{withTicket, requestFor, Owns, Closes, Facts, Sits, same-or-not}
+use Rattle.history_promises.proofs.Tied.{withTicket, requestFor, Owns, Closes, Facts, Sits}
 
 -- a request with a ticket is told by two numbers of its list
 same-ticket : (p : Phase) (t : Seat) (l m : List Given) → ticketOf m (t .place) ≡ ticketOf l (t .place) → clearingFor m (t .place) ≡ clearingFor l (t .place) → withTicket p t l ≡ withTicket p t m

@@ -9,6 +9,7 @@ use native.Mathlib.Omega.{arith}
 use borrow.Author.Tests.{eqb-true, eqb-false, ne-eqb}
 use lib.Dec.{eqb}
 use lib.ListN.{length, getD}
+use Rattle.common.proofs.Choices.{same-or-not}
 use Rattle.agent_ticket.specs.declared.Mode.{Mode}
 use Rattle.agent_ticket.specs.declared.Mode.the-variants.{Reader, Writer}
 use Rattle.agent_request.specs.Request.{phaseNumber, freeRequest, openedRequest, inPhase}
@@ -131,13 +132,6 @@ pub record Tied (n : ℕ) (s : State) (L : Ledger) : Type 0 where
   pub agrees : (r : ℕ) → r < n → Agrees (L .tickets r) (owed (L .seats) r) (getD (s .words) r 0)
   pub owner : (r p : ℕ) → r < n → p < length (L .tickets r) → ticketAt (L .tickets r) p .released ≡ false → Owner (L .seats) (L .tickets r) r p
   pub last : (r : ℕ) → r < n → topped (L .tickets r) ≡ true → Last (L .seats) (L .tickets r) r
-
-pub same-or-not : (a b : ℕ) → (a ≡ b) ⊎ (a ≡ b → ⊥)
-same-or-not a b = by (eqb a b) refl
-  where
-    by : (x : Bool) → eqb a b ≡ x → (a ≡ b) ⊎ (a ≡ b → ⊥)
-    by true e = inl (eqb-true a b e)
-    by false e = inr (eqb-false a b e)
 
 -- a slot that may clear a record owes nothing there
 may-not-owe : (r : ℕ) (k : Mode) (t : Seat) → mayClear (t .stage) ≡ true → owesOn r k t ≡ false

@@ -9,13 +9,12 @@ use lib.ListN.{length, take, drop, length-append}
 use lib.Seq.{take-at, drop-append-add}
 use Rattle.board_call.specs.declared.Call.{Call}
 use Rattle.board_rules.specs.Answers.{saidOf}
-use Rattle.board_rules.specs.declared.Said.{Said}
 use Rattle.board_rules.specs.Board.{State, stateOf, played}
 use Rattle.run_entry.specs.Entry.{ENTRY, entryOf}
 use Rattle.schedule_bytes.specs.Schedule.{callsFrom}
 use Rattle.run_rules.specs.Run.{runOf}
 use Rattle.run_rules.specs.Promises.{allPlayed, entriesFrom}
-use Rattle.run_rules.proofs.Plays.{run-plays-its-records}
+use Rattle.run_rules.proofs.Plays.{run-plays-its-records, entry-long, entries-long}
 use Rattle.run_play.specs.Comes.{Comes}
 use Rattle.run_play.specs.declared.Ran.{Ran}
 use Rattle.history_promises.specs.History.{Move, fresh, after}
@@ -23,18 +22,6 @@ use Rattle.history_promises.specs.History.Move.{Do}
 use Rattle.history_promises.proofs.Demand.{demand-3}
 use Rattle.history_reports.specs.Reports.{Runs, noRun, oneMore}
 use Rattle.history_reports.specs.Promises.{asMoves, nthCall, ReportsAreOfHistories}
-
-entry-long : (d : Said) → length (entryOf d) ≡ ENTRY
-unfolding entryOf
-entry-long d = refl
-
-entries-long : (s : State) (cs : List Call) → length (entriesFrom s cs) ≡ ENTRY * length cs
-unfolding entriesFrom
-entries-long s [] = refl
-entries-long s (c ∷ cs) =
-    let i = entries-long (stateOf (played c s)) cs in
-    let d = saidOf c (played c s .answer) in
-    omega (arith, length-append (entryOf d) (entriesFrom (stateOf (played c s)) cs), entry-long d)
 
 -- the entry of each call
 entry-at :

@@ -1,25 +1,30 @@
 -- Why a run comes to what its records come to, and ends as the table says: by induction along the run, one record at a time. Where it ends, nothing
 -- has been played from there on, and the lines of the table are the tests of the definition.
 -- Assumes nothing.
-use Prim.Native.Nat.{ℕ, zero, suc, _+_, _-_, _*_}
+use Prim.Native.Nat.{ℕ, zero, suc, _+_, _-_, _*_, _<_, _≤_}
 use mathlib.Core.Path.{_≡_, refl, ap, sym, subst, _∙_}
 use mathlib.Core.Bool.{Bool, true, false}
 use mathlib.Core.Logic.{inl, inr}
 use mathlib.Core.List.{List, [], _∷_, _++_}
 use native.Mathlib.Omega.{arith}
+use native.Mathlib.Nat.{add-zero}
+use borrow.Author.Tests.{ltb-false}
 use lib.Dec.{eqb, ltb, eqb·suc-zero}
-use lib.ListN.{length}
-use Rattle.common.specs.Table.{Gives}
+use lib.ListN.{length, take, drop, length-append, length-drop}
+use lib.Seq.{take-at, drop-append-add}
+use Rattle.common.specs.Table.{Gives, NoneApplies}
 use Rattle.common.proofs.Tables.{it-gives}
 use Rattle.board_call.specs.declared.Call.{Call}
 use Rattle.board_rules.specs.Answers.{saidOf, verbsOf}
+use Rattle.board_rules.specs.declared.Said.{Said}
+use Rattle.board_rules.specs.declared.Answer.{Answer}
 use Rattle.board_rules.specs.Board.{State, stateOf, played}
 use Rattle.schedule_bytes.specs.Schedule.{nextOf, callsFrom, placeBehind}
 use Rattle.schedule_bytes.specs.declared.Next.{Next}
 use Rattle.schedule_bytes.specs.declared.Next.the-variants.{Record, End, Unknown, Cut}
 use Rattle.run_entry.specs.Entry.{ENTRY, entryOf}
 use Rattle.run_rules.specs.Run.{Whole, ended, followed, spent, goesOn, runOf}
-use Rattle.run_rules.specs.Promises.{allPlayed, entriesFrom, verbsFrom, PlaysItsRecords, RunPlaysItsRecords, endLines, EndsExactly}
+use Rattle.run_rules.specs.Promises.{allPlayed, entriesFrom, verbsFrom, PlaysItsRecords, RunPlaysItsRecords, endLines, EndsExactly, PlaysOnlyWhereNoneEndsIt, ReportStaysBehind}
 
 -- a run that ends here has played nothing
 none : (bytes : List ℕ) (h at : ℕ) (s : State) → PlaysItsRecords bytes at s (ended h at s)
@@ -123,3 +128,87 @@ ends-exactly a room bytes at s n =
     let lines = endLines (nextOf bytes (w .place)) (eqb (a - w .records) 0) (ltb (room - ENTRY * w .records) ENTRY) in
     let g = ends a room bytes at s in
     (λ e. subst (λ (m : ℕ). Gives m lines) e g, λ h. sym (it-gives (w .ending) lines g) ∙ it-gives n lines h)
+
+-- the lines before the k-th record of a run that came to so many records
+abbrev Free : List ℕ → ℕ → ℕ → ℕ → Whole → Type 0
+Free bytes at a room w =
+    (k : ℕ) → k < w .records → NoneApplies (endLines (nextOf bytes (placeBehind k bytes at)) (eqb (a - k) 0) (ltb (room - ENTRY * k) ENTRY))
+
+free-none : (bytes : List ℕ) (at a room h : ℕ) (s : State) → Free bytes at a room (ended h at s)
+free-none bytes at a room h s k l = absurd (omega arith)
+
+-- before its first record, and before the others as the rest says
+free-one :
+    (bytes : List ℕ) (at next a room : ℕ) (c : Call) (e : nextOf bytes at ≡ Record c next) (answer : Answer) (w : Whole) →
+    Here bytes at (suc a) room (Record c next) false false → Free bytes next a (room - ENTRY) w → Free bytes at (suc a) room (followed c answer w)
+unfolding placeBehind
+free-one bytes at next a room c e answer w here i zero l = rw (here .stands, here .allowed, here .roomy) (refl, (refl, (refl, (refl, (refl, tt)))))
+free-one bytes at next a room c e answer w here i (suc k) l =
+    let left : suc a - suc k ≡ a - k = omega arith in
+    let space : room - ENTRY * suc k ≡ room - ENTRY - ENTRY * k = omega arith in
+    rw (e, left, space) (i k (omega arith))
+
+free-next :
+    (bytes : List ℕ) (n : Next) (short : Bool) (at a room : ℕ) (s : State) (rest : ℕ → State → Whole) →
+    Here bytes at (suc a) room n false short →
+    ((next : ℕ) (t : State) → Free bytes next a (room - ENTRY) (rest next t)) →
+    Free bytes at (suc a) room (goesOn n short at s rest)
+free-next b End short at a room s rest here i = free-none b at (suc a) room 0 s
+free-next b Unknown true at a room s rest here i = free-none b at (suc a) room 12 s
+free-next b Unknown false at a room s rest here i = free-none b at (suc a) room 8 s
+free-next b Cut true at a room s rest here i = free-none b at (suc a) room 12 s
+free-next b Cut false at a room s rest here i = free-none b at (suc a) room 7 s
+free-next b (Record c next) true at a room s rest here i = free-none b at (suc a) room 12 s
+free-next b (Record c next) false at a room s rest here i =
+    free-one b at next a room c (here .stands) (played c s .answer) (rest next (stateOf (played c s))) here (i next (stateOf (played c s)))
+
+free-spent : (bytes : List ℕ) (n : Next) (at room : ℕ) (s : State) → Free bytes at 0 room (spent n at s)
+free-spent b End at room s = free-none b at 0 room 0 s
+free-spent b (Record c next) at room s = free-none b at 0 room 11 s
+free-spent b Unknown at room s = free-none b at 0 room 11 s
+free-spent b Cut at room s = free-none b at 0 room 11 s
+
+pub plays-only-where-none-ends-it : PlaysOnlyWhereNoneEndsIt
+unfolding runOf
+plays-only-where-none-ends-it zero room bytes at s = free-spent bytes (nextOf bytes at) at room s
+plays-only-where-none-ends-it (suc a) room bytes at s =
+    let space : room - ENTRY * 0 ≡ room = omega arith in
+    let left : suc a - 0 ≡ suc a = omega arith in
+    free-next bytes (nextOf bytes at) (ltb room ENTRY) at a room s _ (record { stands = refl; allowed = rw left (eqb·suc-zero a); roomy = rw space refl })
+    (λ next t. plays-only-where-none-ends-it a (room - ENTRY) bytes next t)
+
+-- entries are 12 bytes each
+pub entry-long : (d : Said) → length (entryOf d) ≡ ENTRY
+unfolding entryOf
+entry-long d = refl
+
+pub entries-long : (s : State) (cs : List Call) → length (entriesFrom s cs) ≡ ENTRY * length cs
+unfolding entriesFrom
+entries-long s [] = refl
+entries-long s (c ∷ cs) =
+    let i = entries-long (stateOf (played c s)) cs in
+    let d = saidOf c (played c s .answer) in
+    omega (arith, length-append (entryOf d) (entriesFrom (stateOf (played c s)) cs), entry-long d)
+
+-- and fit the report, since there was room before the last of them
+fits : (bytes : List ℕ) (at a room : ℕ) (w : Whole) → Free bytes at a room w → (n : ℕ) → w .records ≡ n → ENTRY * n ≤ room
+fits bytes at a room w f zero e = omega arith
+fits bytes at a room w f (suc k) e =
+    let none = f k (omega arith) in
+    let left = ltb-false (room - ENTRY * k) ENTRY (none .1 .1 .0) in
+    omega arith
+
+pub report-stays-behind : ReportStaysBehind
+report-stays-behind a report bytes at s =
+    let w = runOf a (length report) bytes at s in
+    let p = run-plays-its-records a (length report) bytes at s in
+    let rest = drop (length (w .entries)) report in
+    let long : length (w .entries) ≡ ENTRY * w .records = ap length (p .reported) ∙ entries-long s (callsFrom (w .records) bytes at) ∙ ap (λ (n : ℕ). ENTRY * n) (p .count) in
+    let room : ENTRY * w .records ≤ length report = fits bytes at a (length report) w (plays-only-where-none-ends-it a (length report) bytes at s) (w .records) refl in
+    record {
+      long = omega (arith, length-append (w .entries) rest, length-drop (length (w .entries)) report, long, room);
+      entries = take-at (w .entries) rest (ENTRY * w .records) long;
+      behind =
+          ap (λ (n : ℕ). drop n (w .entries ++ rest)) (sym long ∙ sym (add-zero (length (w .entries)))) ∙
+          drop-append-add (w .entries) rest 0 ∙ ap (λ (n : ℕ). drop n report) long;
+    }

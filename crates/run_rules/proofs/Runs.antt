@@ -18,7 +18,7 @@ use Rattle.schedule_bytes.specs.declared.Next.{Next}
 use Rattle.schedule_bytes.specs.declared.Next.the-variants.{Record, End, Unknown, Cut}
 use Rattle.schedule_bytes.proofs.Next as next-type
 use Rattle.run_rules.specs.Run.{Whole, ended, followed, spent, goesOn, runOf}
-use Rattle.run_rules.specs.Halts.{isEnd, haltedOf, leavesOf, HaltsWhereItEnds, LeavesWhereItEnds}
+use Rattle.run_rules.specs.Halts.{isEnd, haltedOf, leavesOf, HaltsWhereItEnds, LeavesWhereItEnds, PlaysWhereItDoesNot}
 
 -- the places of the answers other than a record among the variants
 abbrev pub others : List ℕ
@@ -121,3 +121,6 @@ halts-where-it-ends a room bytes at s ne = halts bytes at s room a _ refl ne
 
 pub leaves-where-it-ends : LeavesWhereItEnds
 leaves-where-it-ends a room bytes at s e none = leaves-none bytes at s room a none e
+
+pub plays-where-it-does-not : PlaysWhereItDoesNot
+plays-where-it-does-not a room bytes at s c next e n = plays bytes at s room a c next n e .0

@@ -40,18 +40,18 @@ row a r b p e n q v o w l =
 abbrev atFirst : List ℕ
 atFirst = 0 ∷ 0 ∷ []
 
-abbrev drawn : List ℕ
-drawn = 65536 ∷ 0 ∷ []
+abbrev oneDrawn : List ℕ
+oneDrawn = 65536 ∷ 0 ∷ []
 
-abbrev letGo : List ℕ
-letGo = 281474976776192 ∷ 0 ∷ []
+abbrev oneReleased : List ℕ
+oneReleased = 281474976776192 ∷ 0 ∷ []
 
 -- A writer in slot 0 that asks for record 0, and one that holds it.
-abbrev asks : List Request
-asks = set freshSlots 0 (openedRequest 0 1)
+abbrev asking : List Request
+asking = set freshSlots 0 (openedRequest 0 1)
 
-abbrev holds : List Request
-holds = set freshSlots 0 (inPhase Held (openedRequest 0 1))
+abbrev holding : List Request
+holding = set freshSlots 0 (inPhase Held (openedRequest 0 1))
 
 -- The entries of its open and of its first step.
 abbrev openedEntry : List ℕ
@@ -63,18 +63,18 @@ grantedEntry = 0 ∷ 2 ∷ 0 ∷ 0 ∷ 0 ∷ 0 ∷ 0 ∷ 0 ∷ 0 ∷ 0 ∷ 0 ∷
 abbrev pub rows : List Row
 rows =
     -- the worked example: opened, granted, released, and the word {1, 0, 1, 0}
-    row 10 100 worked 0 0 4 11 2 freshSlots letGo
+    row 10 100 worked 0 0 4 11 2 freshSlots oneReleased
     (0 ∷ 1 ∷ 0 ∷ 0 ∷ 0 ∷ 0 ∷ 0 ∷ 0 ∷ 0 ∷ 0 ∷ 0 ∷ 0 ∷
     0 ∷ 2 ∷ 0 ∷ 0 ∷ 0 ∷ 0 ∷ 0 ∷ 0 ∷ 0 ∷ 0 ∷ 0 ∷ 0 ∷
     0 ∷ 6 ∷ 0 ∷ 0 ∷ 0 ∷ 0 ∷ 0 ∷ 0 ∷ 0 ∷ 0 ∷ 0 ∷ 0 ∷
     0 ∷ 10 ∷ 0 ∷ 0 ∷ 0 ∷ 0 ∷ 1 ∷ 0 ∷ 0 ∷ 0 ∷ 1 ∷ 0 ∷
     []) ∷
     -- the allowance spent, 11; at the end of the schedule 0 all the same
-    row 1 100 worked 0 11 1 4 0 asks atFirst openedEntry ∷
+    row 1 100 worked 0 11 1 4 0 asking atFirst openedEntry ∷
     row 0 100 worked 11 0 0 11 0 freshSlots atFirst [] ∷
     row 0 0 worked 99 0 0 99 0 freshSlots atFirst [] ∷
     -- fewer than 12 report bytes, 12; 11 comes first
-    row 10 23 worked 0 12 1 4 0 asks atFirst openedEntry ∷
+    row 10 23 worked 0 12 1 4 0 asking atFirst openedEntry ∷
     row 0 0 worked 0 11 0 0 0 freshSlots atFirst [] ∷
     -- an unknown kind, 8, and a cut body, 7; 12 comes before either, and the place stays before it
     row 10 100 (5 ∷ []) 0 8 0 0 0 freshSlots atFirst [] ∷
@@ -82,8 +82,8 @@ rows =
     row 10 100 (1 ∷ 0 ∷ 0 ∷ []) 0 7 0 0 0 freshSlots atFirst [] ∷
     row 10 11 (2 ∷ []) 0 12 0 0 0 freshSlots atFirst [] ∷
     -- either after records that were played: their work stays, and the place stands behind them
-    row 10 100 (1 ∷ 0 ∷ 0 ∷ 1 ∷ 2 ∷ 0 ∷ 9 ∷ []) 0 8 2 6 1 holds drawn (openedEntry ++ grantedEntry) ∷
-    row 10 100 (1 ∷ 0 ∷ 0 ∷ 1 ∷ 2 ∷ []) 0 7 1 4 0 asks atFirst openedEntry ∷
+    row 10 100 (1 ∷ 0 ∷ 0 ∷ 1 ∷ 2 ∷ 0 ∷ 9 ∷ []) 0 8 2 6 1 holding oneDrawn (openedEntry ++ grantedEntry) ∷
+    row 10 100 (1 ∷ 0 ∷ 0 ∷ 1 ∷ 2 ∷ []) 0 7 1 4 0 asking atFirst openedEntry ∷
     -- a refused call is reported and the run goes on; it counts as a record and as no verb
     row 10 100 (2 ∷ 9 ∷ 4 ∷ 1 ∷ 0 ∷ []) 0 0 2 5 0 freshSlots atFirst
     (4 ∷ 0 ∷ 9 ∷ 0 ∷ 0 ∷ 0 ∷ 0 ∷ 0 ∷ 0 ∷ 0 ∷ 0 ∷ 0 ∷

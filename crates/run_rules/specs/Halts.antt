@@ -1,18 +1,18 @@
--- A mirror of `Run`: the two tests before a record as the code makes them, on what stands at its place. Nothing here needs belief: the two
--- statements at the end say that a run ends where they say, with their number.
-use Prim.Native.Nat.{ℕ}
+-- A mirror of `Run`: the two tests before a record as the code makes them, on what stands at its place. Nothing here needs belief: the
+-- three statements at the end say that a run ends where they say, with their number, and goes on where they do not.
+use Prim.Native.Nat.{ℕ, _-_}
 use mathlib.Core.Path.{_≡_}
 use mathlib.Core.Bool.{Bool, true, false}
 use mathlib.Core.List.{List}
 use lib.Dec.{eqb, ltb}
 use Rattle.common.specs.Choice.{if_then_else_}
 use Rattle.board_call.specs.declared.Call.{Call}
-use Rattle.board_rules.specs.Board.{State}
+use Rattle.board_rules.specs.Board.{State, stateOf, played}
 use Rattle.schedule_bytes.specs.Schedule.{nextOf}
 use Rattle.schedule_bytes.specs.declared.Next.{Next}
 use Rattle.schedule_bytes.specs.declared.Next.the-variants.{Record, End, Unknown, Cut}
 use Rattle.run_entry.specs.Entry.{ENTRY}
-use Rattle.run_rules.specs.Run.{ended, runOf}
+use Rattle.run_rules.specs.Run.{ended, followed, runOf}
 
 abbrev pub isEnd : Next → Bool
 isEnd End = true
@@ -41,10 +41,18 @@ HaltsWhereItEnds =
     (a room : ℕ) (bytes : List ℕ) (at : ℕ) (s : State) →
     (haltedAt a room bytes at ≡ 0 → ⊥) → runOf a room bytes at s ≡ ended (haltedAt a room bytes at) at s
 
--- and where it is 0 and no record stands there, with what is left.
+-- where it is 0 and no record stands there, with what is left,
 abbrev pub LeavesWhereItEnds : Type 0
 LeavesWhereItEnds =
     (a room : ℕ) (bytes : List ℕ) (at : ℕ) (s : State) →
     haltedAt a room bytes at ≡ 0 →
     ((c : Call) (next : ℕ) → nextOf bytes at ≡ Record c next → ⊥) →
     runOf a room bytes at s ≡ ended (leavesOf (nextOf bytes at)) at s
+
+-- and where it is 0 and a record stands there, the run plays it and goes on.
+abbrev pub PlaysWhereItDoesNot : Type 0
+PlaysWhereItDoesNot =
+    (a room : ℕ) (bytes : List ℕ) (at : ℕ) (s : State) (c : Call) (next : ℕ) →
+    haltedAt a room bytes at ≡ 0 →
+    nextOf bytes at ≡ Record c next →
+    runOf a room bytes at s ≡ followed c (played c s .answer) (runOf (a - 1) (room - ENTRY) bytes next (stateOf (played c s)))

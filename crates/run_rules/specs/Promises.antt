@@ -1,12 +1,12 @@
 -- What is promised of runs. Statements only: proofs/ has why each holds.
-use Prim.Native.Nat.{ℕ, zero, _+_, _-_, _*_}
+use Prim.Native.Nat.{ℕ, zero, _+_, _-_, _*_, _<_}
 use mathlib.Core.Path.{_≡_}
 use mathlib.Core.Bool.{Bool, true, false}
 use mathlib.Core.Logic.{_↔_}
 use mathlib.Core.List.{List, [], _∷_, _++_}
 use lib.Dec.{eqb, ltb}
-use lib.ListN.{length}
-use Rattle.common.specs.Table.{Line, line, Gives}
+use lib.ListN.{length, take, drop}
+use Rattle.common.specs.Table.{Line, line, Gives, NoneApplies}
 use Rattle.board_call.specs.declared.Call.{Call}
 use Rattle.board_rules.specs.Answers.{saidOf, verbsOf}
 use Rattle.board_rules.specs.Board.{State, stateOf, played}
@@ -14,7 +14,7 @@ use Rattle.schedule_bytes.specs.Schedule.{nextOf, callsFrom, placeBehind}
 use Rattle.schedule_bytes.specs.declared.Next.{Next}
 use Rattle.schedule_bytes.specs.declared.Next.the-variants.{Record, End, Unknown, Cut}
 use Rattle.run_entry.specs.Entry.{ENTRY, entryOf}
-use Rattle.run_rules.specs.Run.{Whole, runOf, stateAfter, joined}
+use Rattle.run_rules.specs.Run.{Whole, runOf, stateAfter, reportOf, joined}
 
 -- The board and the words after some calls, one after the other;
 unfoldable pub allPlayed : State → List Call → State
@@ -66,13 +66,30 @@ atEnd Cut = false
 abbrev pub endLines : Next → Bool → Bool → List Line
 endLines next spent short = line 0 (atEnd next) ∷ line 11 spent ∷ line 12 short ∷ line 8 (isUnknown next) ∷ line 7 (isCut next) ∷ []
 
--- Demand D1.2: a run ends with the number n exactly when these lines give n at the place, with the allowance and in the room that its records left.
+-- Demand D1.2: a run ends with the number n exactly when these lines give n at the place, with the allowance and in the room that its records
+-- left;
 abbrev pub EndsExactly : Type 0
 EndsExactly =
     (a room : ℕ) (bytes : List ℕ) (at : ℕ) (s : State) (n : ℕ) →
     let w = runOf a room bytes at s in
     (w .ending ≡ n) ↔
     Gives n (endLines (nextOf bytes (w .place)) (eqb (a - w .records) 0) (ltb (room - ENTRY * w .records) ENTRY))
+
+-- and it plays a record only where none of them applies: so never more records than its allowance, nor more than its report has room for.
+abbrev pub PlaysOnlyWhereNoneEndsIt : Type 0
+PlaysOnlyWhereNoneEndsIt =
+    (a room : ℕ) (bytes : List ℕ) (at : ℕ) (s : State) (k : ℕ) →
+    k < runOf a room bytes at s .records →
+    NoneApplies (endLines (nextOf bytes (placeBehind k bytes at)) (eqb (a - k) 0) (ltb (room - ENTRY * k) ENTRY))
+
+-- Rule 7.5: the report afterwards has the entries in front, and behind them every byte as it was lent.
+pub record Reports (report : List ℕ) (w : Whole) : Type 0 where
+  pub long : length (reportOf report w) ≡ length report
+  pub entries : take (ENTRY * w .records) (reportOf report w) ≡ w .entries
+  pub behind : drop (ENTRY * w .records) (reportOf report w) ≡ drop (ENTRY * w .records) report
+
+abbrev pub ReportStaysBehind : Type 0
+ReportStaysBehind = (a : ℕ) (report bytes : List ℕ) (at : ℕ) (s : State) → Reports report (runOf a (length report) bytes at s)
 
 -- A run that stops, for whatever reason, and is taken up again at its place gives the same board, words, entries and counts as one long run.
 abbrev pub TakenUpAgain : Type 0

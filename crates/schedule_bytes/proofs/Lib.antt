@@ -1,2 +1,4 @@
 pub mod Bodies
 pub mod Determined
+pub mod Examples
+pub mod Stands

@@ -1,2 +1,3 @@
 pub mod Schedule
 pub mod Promises
+pub mod Examples
