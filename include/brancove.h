@@ -3,22 +3,59 @@
  *
  * The functions are in libagent_c.a (x86-64). Each is proved to do what the rules say, for every content of a request and every
  * 64-bit result. They send nothing, wait for nothing, allocate nothing and keep nothing between calls: the caller owns the request,
- * sends the verb to the record's lock word, and chooses when to try again. Two threads may not use one request at the same time.
+ * sends the verb to the record's lock word, and chooses when to try again.
  *
- * What requests do to each other is proved of a board that plays whole calls, one after the other: a call sends its verb and takes the result before
- * the next call begins. There a writer is alone and no ticket passes, with at most 256 requests in use at a time on all words together, at most
- * 4,096 words, every word 0 at first and touched by these verbs alone. An agent that sends now and takes the result later, while others send, is
- * not what that theorem speaks of. In every case a verb is sent exactly once for each call of a `_sends`, and its result taken once.
+ * What requests do to each other is proved of a board that plays whole calls, one after the other: a call sends its verb and takes the
+ * result before the next call begins. There a writer is alone and no ticket passes, with at most 256 requests in use at a time on all
+ * words together, at most 4,096 words, every word 0 at first and touched by these verbs alone. An agent that sends now and takes the
+ * result later, while others send, is not what that theorem speaks of.
  *
- *     brancove_request q = {0};
- *     brancove_ask(&q, record, BRANCOVE_WRITER);
+ * The whole life of a request. SEND, PAUSE and FAIL are yours: SEND sends a verb to the record's word, once, and gives the word as it
+ * was before; FAIL does not return.
+ *
+ *     brancove_request q = {0}; // free; in C++ {}
+ *     brancove_told told;
  *     do {
- *         brancove_verb verb = brancove_step_sends(&q);
- *         uint64_t before = SEND(record, verb);                      yours
- *         brancove_told told = brancove_step_takes(&q, before);
- *     } while (q.phase != BRANCOVE_PHASE_HELD && q.phase != BRANCOVE_PHASE_FREE);
+ *         if (brancove_ask(&q, record, mode) != BRANCOVE_ACCEPTED)
+ *             FAIL("the request is in use, or there is no such mode");
+ *         do {
+ *             told = brancove_step_takes(&q, SEND(record, brancove_step_sends(&q)));
+ *             if (told.outcome == BRANCOVE_TOLD_WAITING)
+ *                 PAUSE(told.ahead);
+ *         } while (q.phase != BRANCOVE_PHASE_HELD && q.phase != BRANCOVE_PHASE_FREE);
+ *         if (told.outcome == BRANCOVE_TOLD_PASSED)
+ *             FAIL("passed: was everything kept that a caller owes?");
+ *         if (told.outcome == BRANCOVE_TOLD_WITHDRAWN)
+ *             PAUSE(0); // the record was full: ask again later
+ *     } while (q.phase == BRANCOVE_PHASE_FREE);
  *
- * examples/c has a whole agent.
+ *     // held: read the record, and write it if the mode is a writer's
+ *
+ *     told = brancove_release_takes(&q, SEND(record, brancove_release_sends(&q)));
+ *     while (q.phase == BRANCOVE_PHASE_CLEARING) { // it drew the last ticket: nobody gets another before it has cleared the word
+ *         told = brancove_step_takes(&q, SEND(record, brancove_step_sends(&q)));
+ *         if (told.outcome == BRANCOVE_TOLD_NOT_YET_CLEAR)
+ *             PAUSE(0);
+ *     }
+ *
+ * What a caller owes:
+ *   - One `_sends`, one verb, one `_takes`, in this order. With kind NOTHING no verb is sent.
+ *   - Never send an add again whose fate is unknown. One that was done and whose result was lost has drawn a ticket that nobody has,
+ *     and everybody behind it waits for ever; a release or a withdrawal that is done twice can let two holders in.
+ *   - Go on until the request is free: through owing after full, and through clearing after the release.
+ *   - At most 256 requests in use, on all words and in all processes together. In use is every phase but free.
+ *   - At most 4,096 words, records 0 to 4,095. `brancove_ask` takes any number.
+ *   - Every word 0 at first, and touched by these verbs alone.
+ *   - One thread a request at a time, and no copy of a request in use.
+ *   - A pointer to a request that exists. NULL is not tested.
+ *   - The order of memory: nothing of the record is read or written before the result that granted it has come, and everything read
+ *     or written is complete before the release is sent. With C11 atomics: acquire on the verbs of a step, release on that of a release.
+ *
+ * A process that dies while it holds or waits blocks its record: those behind it are told waiting, with a number that no longer falls.
+ * One that dies owing or clearing leaves the record full. A waiting request cannot give up, since its ticket is in everybody's count.
+ *
+ * docs/AGENT.md has all of this at length, with RDMA and with what an operator can do; examples/c/first.c is the loop as a program, and
+ * examples/c/agent.c a whole agent.
  */
 #ifndef BRANCOVE_H
 #define BRANCOVE_H
@@ -96,7 +133,8 @@ typedef struct brancove_verb {
 typedef struct brancove_told {
     uint8_t number;
     uint8_t outcome;
-    uint64_t ahead; /* the number ahead where the outcome is to wait, else 0; a reader's counts earlier readers too, whom it does not wait for */
+    /* the number ahead where the outcome is to wait, else 0; a reader's counts earlier readers too, whom it does not wait for */
+    uint64_t ahead;
 } brancove_told;
 
 /* The four counters of a lock word, highest bits first: releases of writers and readers, then their next tickets. */

@@ -6,15 +6,19 @@
  *
  *     verb   here                             ibverbs
  *     add    atomic_fetch_add                 IBV_WR_ATOMIC_FETCH_AND_ADD, wr.atomic.compare_add = first
- *     read   atomic_load                      IBV_WR_RDMA_READ of 8 bytes
+ *     read   atomic_load                      IBV_WR_RDMA_READ of 8 bytes, or an add of 0
  *     swap   atomic_compare_exchange_strong   IBV_WR_ATOMIC_CMP_AND_SWP, wr.atomic.compare_add = first, wr.atomic.swap = second
  *
  * A card's atomics are atomic among themselves and not with the processor's, so there the node that owns the memory uses its card too.
+ *
+ * The order of memory here: the operation that grants must be an acquire, and the add of a release must be a release, a reader's too.
+ * Every change of a word is an add or a swap, never a store, so whoever is granted has synchronized with each release that it counts.
+ * The operations below are sequentially consistent, C11's default, which is more than enough. docs/AGENT.md says what RDMA needs.
  */
 #include "agent.h"
 
 /* Sends a verb to a word and gives the word as it was before. */
-static uint64_t send(lock_word *word, brancove_verb verb)
+static uint64_t send_verb(lock_word *word, brancove_verb verb)
 {
     uint64_t found = verb.first;
     switch (verb.kind) {
@@ -32,7 +36,7 @@ static brancove_told step(struct agent *agent)
 {
     brancove_verb verb = brancove_step_sends(&agent->request);
     agent->verbs++;
-    return brancove_step_takes(&agent->request, send(&agent->words[agent->request.record], verb));
+    return brancove_step_takes(&agent->request, send_verb(&agent->words[agent->request.record], verb));
 }
 
 static bool is_wrong(struct agent *agent, const char *what)
@@ -83,7 +87,7 @@ bool agent_give_back(struct agent *agent)
 {
     brancove_verb verb = brancove_release_sends(&agent->request);
     agent->verbs++;
-    brancove_told told = brancove_release_takes(&agent->request, send(&agent->words[agent->request.record], verb));
+    brancove_told told = brancove_release_takes(&agent->request, send_verb(&agent->words[agent->request.record], verb));
     if (told.outcome == BRANCOVE_TOLD_RELEASED)
         return true;
     if (told.outcome != BRANCOVE_TOLD_CLEARING_DUE)

@@ -20,7 +20,10 @@ static const char *const usage =
     "as writers. The last lines are verbs per second and the longest wait in reads. Status 1: a promise was broken, or no request\n"
     "ended for 30 seconds.\n";
 
-/* What the locks guard. `inside` counts who is inside, a writer as ONE_WRITER; the other two are plain on purpose. */
+/*
+ * What the locks guard. `inside` counts who is inside, a writer as ONE_WRITER. It is relaxed on purpose and the other two are plain: the
+ * locks alone order them, so that a thread sanitizer sees an agent whose locks do not (tests/sanitize).
+ */
 enum { ONE_WRITER = 1 << 16 };
 static struct guarded {
     _Atomic uint32_t inside;
@@ -86,25 +89,36 @@ static void work(struct worker *worker)
         sched_yield();
 }
 
+/* Gives how many were inside before. */
+static uint32_t enter(struct guarded *at, uint32_t who)
+{
+    return atomic_fetch_add_explicit(&at->inside, who, memory_order_relaxed);
+}
+
+static void leave(struct guarded *at, uint32_t who)
+{
+    atomic_fetch_sub_explicit(&at->inside, who, memory_order_relaxed);
+}
+
 static void write_alone(struct worker *worker, struct guarded *at, unsigned record)
 {
-    if (atomic_fetch_add(&at->inside, ONE_WRITER) != 0)
+    if (enter(at, ONE_WRITER) != 0)
         violation("a writer shares a record", record);
     at->begun++;
     work(worker);
     at->done++;
-    atomic_fetch_sub(&at->inside, ONE_WRITER);
+    leave(at, ONE_WRITER);
 }
 
 static void read_with_readers(struct worker *worker, struct guarded *at, unsigned record)
 {
-    if (atomic_fetch_add(&at->inside, 1) >= ONE_WRITER)
+    if (enter(at, 1) >= ONE_WRITER)
         violation("a reader shares a record with a writer", record);
     uint64_t done = at->done;
     work(worker);
     if (at->begun != done)
         violation("a reader saw a writer's work half done", record);
-    atomic_fetch_sub(&at->inside, 1);
+    leave(at, 1);
 }
 
 static void *run(void *argument)

@@ -10,15 +10,12 @@ use native.Mathlib.Omega.{arith}
 use lib.ListN.{length, getD, set, take}
 use Rattle.common.specs.Choice.{if_then_else_}
 use Rattle.history_promises.specs.Tickets.{counted}
+use Rattle.history_promises.specs.Ledger.{one, below}
 
 -- a test passes or fails
 pub true-or-false : (x : Bool) → (x ≡ true) ⊎ (x ≡ false)
 true-or-false true = inl refl
 true-or-false false = inr refl
-
-abbrev pub one : Bool → ℕ
-one true = 1
-one false = 0
 
 pub one-le : (x : Bool) → one x ≤ 1
 one-le true = omega arith
@@ -82,11 +79,7 @@ module _ {A : Type 0} (f : A → Bool) where
 le-of-suc : (i n : ℕ) → i < suc n → i ≤ n
 le-of-suc i n h = omega arith
 
--- how many numbers below n pass a test
-unfoldable pub below : (ℕ → Bool) → ℕ → ℕ
-below f zero = zero
-below f (suc n) = one (f n) + below f n
-
+-- of the numbers below one
 pub below-le : (f : ℕ → Bool) (n : ℕ) → below f n ≤ n
 unfolding below
 below-le f zero = omega arith

@@ -7,7 +7,7 @@ use mathlib.Core.Logic.{_↔_, _⊎_, inl, inr, ⊎-elim}
 use mathlib.Core.List.{List, [], _∷_, _++_}
 use native.Mathlib.Nat.{eq-or-lt-of-le}
 use native.Mathlib.Omega.{arith}
-use borrow.Author.Tests.{leb-false, ltb-true, ltb-false, eqb-true, eq-eqb}
+use borrow.Author.Tests.{leb-true, leb-false, ltb-true, ltb-false, eqb-true, eq-eqb}
 use lib.Dec.{eqb, leb, ltb}
 use lib.ListN.{length, take}
 use lib.Seq.{take-append-seam, take-length}
@@ -20,22 +20,22 @@ use Rattle.agent_rules.specs.declared.Answer.the-variants as tells
 use Rattle.board_slots.specs.Slots.{SLOTS, lowestFree}
 use Rattle.board_call.specs.declared.Call.{Call}
 use Rattle.board_call.specs.declared.Call.the-variants.{Open, Step, Release, Show}
-use Rattle.board_rules.specs.Records.{isRecord}
+use Rattle.board_rules.specs.Records.{RECORDS, isRecord}
 use Rattle.board_rules.specs.declared.Answer.{Answer}
 use Rattle.board_rules.specs.declared.Answer.the-variants.{Refused, Begun, Opened, Told, Shown}
 use Rattle.board_rules.specs.Board.{State, Done, opened, stepped, released, shown, shownOf, played}
 use Rattle.history_promises.specs.Tickets.{Given, conflicts, ticketAt, sameKind, EarlierReleased, AllReleased}
-use Rattle.history_promises.specs.Ledger.{Stage, Ledger, mine}
+use Rattle.history_promises.specs.Ledger.{Stage, Ledger, mine, isOwing, owesOn}
 use Rattle.history_promises.specs.Ledger.Stage.{Nobody, Asks, Waits, Holds, Owes, Clears}
 use Rattle.history_promises.specs.Promises.{OpenTells, OpensWhereNobodySits, WriterHoldsAlone, DrawnIsGrantedExactly, WaitingIsGrantedExactly, NonePassed, FullExactly, NoneOwed, ClearedOnly, ClearedThen, CountersStaySmall, Demand, Demand3}
 use Rattle.history_promises.proofs.Counts.{clash, true-or-false, below-none, none-below}
 use Rattle.history_promises.proofs.Turns.{aheadNow, ahead-earlier, earlier-ahead}
-use Rattle.history_promises.proofs.Words.{topped, topped-or, or-topped, clearingFor, wordAtRest, at-rest, rests, counters-small}
-use Rattle.history_promises.proofs.Tied.{Facts, isOwing, owesOn, Tied, few-owed}
+use Rattle.history_promises.proofs.Words.{topped, topped-or, or-topped, clearingFor, wordAtRest, at-rest, rests, word-counted, counters-small}
+use Rattle.history_promises.proofs.Tied.{Facts, Tied, few-owed}
 use Rattle.history_promises.proofs.Sent.{went, step-nobody, step-holds, step-owes, step-clears, step-waits, step-asks-full, step-asks-turn, release-nobody, release-asks, release-waits, release-owes, release-clears, release-holds}
 use Rattle.history_promises.proofs.Moves.{wordNow, clearing-last, owes-here}
-use Rattle.history_promises.proofs.Kept.{nobody-there, keeps-at, tied}
-use Rattle.history_promises.proofs.Seats.{in-board, lent-to, facts-of, seat-has-its-ticket, ticket-has-its-seat, told-by-stage}
+use Rattle.history_promises.proofs.Kept.{nobody-there, somebody-there, keeps-at, tied}
+use Rattle.history_promises.proofs.Seats.{in-board, lent-to, facts-of, seat-has-its-ticket, ticket-has-its-seat, told-by-stage, due-exactly}
 
 -- an answer that one way gives, and the other does not
 picked : (x : Bool) (d e : Done) (a : Answer) → d .answer ≡ a → (e .answer ≡ a → ⊥) → ((if x then d else e) .answer ≡ a) ↔ (x ≡ true)
@@ -300,16 +300,34 @@ module _ {n : ℕ} {s : State} {L : Ledger} (T : Tied n s L) where
           by Owes f true q = absurd (none-owed j f (eqb-true (L .seats j .about) (L .seats i .about) q))
           by Owes f false q = rw (f, q) refl
 
-  -- an open is refused, or takes a slot that nobody sits in
-  opens-where-nobody-sits : OpensWhereNobodySits L (λ c. played c s .answer)
+  -- which numbers are records of the board
+  is-record : (r : ℕ) → not (isRecord r (s .words)) ≡ false → r < n
+  is-record r e = by (ltb r (length (s .words))) refl
+    where
+      by : (x : Bool) → ltb r (length (s .words)) ≡ x → r < n
+      by true q = omega (arith, ltb-true r (length (s .words)) q, T .words-long)
+      by false q = clash (not (isRecord r (s .words))) (rw q refl) e
+
+  no-record : (r : ℕ) → not (isRecord r (s .words)) ≡ true → n ≤ r
+  no-record r e = by (ltb r (length (s .words))) (ltb r RECORDS) refl refl
+    where
+      by : (x y : Bool) → ltb r (length (s .words)) ≡ x → ltb r RECORDS ≡ y → n ≤ r
+      by false y p q = omega (arith, ltb-false r (length (s .words)) p, T .words-long)
+      by true false p q = omega (arith, ltb-false r RECORDS q, T .most)
+      by true true p q = clash (not (isRecord r (s .words))) e (rw (p, q) refl)
+
+  -- an open is refused only where it has to be, and else takes a slot that nobody sits in
+  opens-where-nobody-sits : OpensWhereNobodySits n L (λ c. played c s .answer)
   unfolding opened
   opens-where-nobody-sits r m =
-      either-by P (not (isRecord r (s .words))) (λ e. inl (2, refl))
-      (λ e. either-by P (ltb 1 m) (λ f. inl (3, refl))
-      (λ f. either-by P (leb SLOTS (lowestFree (s .slots))) (λ g. inl (6, refl)) (λ g. inr (lowestFree (s .slots), refl, nobody-there T g))))
+      either-by P (not (isRecord r (s .words))) (λ e. inl (2, refl, inl (no-record r e)))
+      (λ e. either-by P (ltb 1 m) (λ f. inl (3, refl, inr (inl (ltb-true 1 m f))))
+      (λ f. either-by P (leb SLOTS (lowestFree (s .slots)))
+      (λ g. inl (6, refl, inr (inr (λ k h. somebody-there T k h (omega (arith, leb-true SLOTS (lowestFree (s .slots)) g))))))
+      (λ g. inr (lowestFree (s .slots), refl, is-record r e, ltb-false 1 m f, leb-false SLOTS (lowestFree (s .slots)) g, nobody-there T g))))
     where
       P : Done → Type 0
-      P d = OpenTells L (d .answer)
+      P d = OpenTells n L r m (d .answer)
 
   pub demand : Demand n L s (λ c. played c s .answer)
   demand =
@@ -317,8 +335,10 @@ module _ {n : ℕ} {s : State} {L : Ledger} (T : Tied n s L) where
         seat-has-its-ticket = seat-has-its-ticket T;
         ticket-has-its-seat = ticket-has-its-seat T;
         told-by-stage = told-by-stage T;
+        due-exactly = due-exactly T;
         opens-where-nobody-sits = opens-where-nobody-sits;
         never-more = λ r k h. T .agrees r h .cap k;
+        words-are-counted = (T .words-long, T .slots-long, λ r h. word-counted (T .agrees r h));
         alone = alone;
         drawn-granted = drawn-granted;
         waiting-granted = waiting-granted;

@@ -1,7 +1,9 @@
--- A board that refuses, or lets wait, whoever asks first is refused by the grants of demand 3: there is no earlier ticket.
+-- A board that refuses, or lets wait, whoever asks first is refused by the grants of demand 3: there is no earlier ticket. One that refuses
+-- every open is refused by what an open is told: nobody sits in slot 0.
 -- Assumes nothing.
 use Prim.Native.Nat.{ℕ}
 use mathlib.Core.Path.{_≡_, refl, sym, subst, _∙_}
+use mathlib.Core.Logic.{inl, inr}
 use mathlib.Core.List.{List, []}
 use native.Mathlib.Omega.{arith}
 use lib.ListN.{length}
@@ -9,16 +11,16 @@ use Rattle.board_slots.specs.Slots.{lowestFree}
 use Rattle.agent_ticket.specs.declared.Mode.{Mode}
 use Rattle.agent_rules.specs.declared.Answer.the-variants as tells
 use Rattle.board_call.specs.declared.Call.{Call}
-use Rattle.board_call.specs.declared.Call.the-variants.{Step}
+use Rattle.board_call.specs.declared.Call.the-variants.{Open, Step}
 use Rattle.board_rules.specs.declared.Answer.{Answer}
 use Rattle.board_rules.specs.declared.Answer.the-variants.{Refused, Told}
 use Rattle.board_rules.specs.Board.{State, opened}
 use Rattle.history_promises.specs.Tickets.{Given, EarlierReleased}
-use Rattle.history_promises.specs.Ledger.{Ledger, mine}
+use Rattle.history_promises.specs.Ledger.{Ledger, blank, mine}
 use Rattle.history_promises.specs.Ledger.Stage.{Asks}
 use Rattle.history_promises.specs.History.{events, readOff}
-use Rattle.history_promises.specs.Promises.{Demand}
-use Rattle.history_promises.specs.Empty.{RefusingFails, WaitingFails, OneAsks}
+use Rattle.history_promises.specs.Promises.{OpenTells, Demand}
+use Rattle.history_promises.specs.Empty.{RefusingFails, WaitingFails, OneAsks, OpeningFails}
 
 none-earlier : (l : List Given) (k : Mode) → l ≡ [] → EarlierReleased l k (length l)
 none-earlier l k e = subst (λ (m : List Given). EarlierReleased m k (length m)) (sym e) (λ j h c. absurd (omega arith))
@@ -49,3 +51,12 @@ waiting-fails n L s says i m asks first said d = no-grant (first-granted n L s s
 pub one-asks : OneAsks
 unfolding events readOff opened lowestFree
 one-asks = (refl, refl)
+
+pub opening-fails : OpeningFails
+opening-fails n s says some refuses d = by (says (Open 0 0)) (refuses 0 0 .0) (refuses 0 0 .1) (d .opens-where-nobody-sits 0 0)
+  where
+    by : (a : Answer) (x : ℕ) → a ≡ Refused x → OpenTells n blank 0 0 a → ⊥
+    by a x e (inl (y, f, inl none)) = absurd (omega (arith, some))
+    by a x e (inl (y, f, inr (inl none))) = absurd (omega arith)
+    by a x e (inl (y, f, inr (inr all))) = all 0 (omega arith) refl
+    by a x e (inr (k, f, lent, mode, here, nobody)) = let z : _≡_ {A = ℕ} 0 1 = cc in absurd (omega arith)

@@ -18,19 +18,19 @@ use Rattle.agent_request.specs.declared.Request.{Request}
 use Rattle.agent_request.specs.declared.Phase.the-variants.{Waiting, Held}
 use Rattle.agent_rules.specs.Life.{ticketCounter}
 use Rattle.board_slots.specs.Slots.{SLOTS, lowestFree}
-use Rattle.board_slots.proofs.Promises.{lowest-is-free}
+use Rattle.board_slots.proofs.Promises.{lowest-is-free, lower-are-used}
 use Rattle.board_call.specs.declared.Call.the-variants.{Open, Step, Release, Show}
 use Rattle.board_rules.specs.Records.{RECORDS, isRecord}
 use Rattle.board_rules.specs.Board.{State, Done, stateOf, slotAt, begun, opened, stepped, released, shown}
 use Rattle.history_promises.specs.Tickets.{Given, ticketAt}
-use Rattle.history_promises.specs.Ledger.{Stage, Seat, Ledger, free, blank, put, seated, staged, mine, drawn, grantedOrWaits, notedCall, begunWith}
+use Rattle.history_promises.specs.Ledger.{Stage, Seat, Ledger, free, blank, put, seated, staged, mine, drawn, grantedOrWaits, notedCall, begunWith, one, isOwing, owesOn, owed}
 use Rattle.history_promises.specs.Ledger.Stage.{Nobody, Asks, Waits, Holds, Owes, Clears}
 use Rattle.history_promises.specs.History.{Move, fresh, made, after, events, noted, readOff, ledgerAfter, boardAfter}
 use Rattle.history_promises.specs.History.Move.{Begin, Do}
-use Rattle.history_promises.proofs.Counts.{one, clash, true-or-false, below-put, none-below}
+use Rattle.history_promises.proofs.Counts.{clash, true-or-false, below-put, none-below}
 use Rattle.history_promises.proofs.Turns.{aheadNow, ahead-earlier}
 use Rattle.history_promises.proofs.Words.{topped, clearingFor, wordAtRest, agrees-same, agrees-empty}
-use Rattle.history_promises.proofs.Tied.{modeNumber, withTicket, requestFor, isNobody, hasTicket, mayClear, isOwing, owesOn, owed, Tied, Change, tied-after}
+use Rattle.history_promises.proofs.Tied.{modeNumber, withTicket, requestFor, isNobody, hasTicket, mayClear, Tied, Change, tied-after}
 use Rattle.history_promises.proofs.Sent.{wentTo, step-nobody, step-holds, step-owes, step-clears, step-waits, step-asks-full, step-asks-turn, release-nobody, release-asks, release-waits, release-owes, release-clears, release-holds}
 use Rattle.history_promises.proofs.Moves.{put-same, put-other, none-topped, wordNow, owes-nothing, clearing-last, tied-went, facts-at, full-moved, withdrawn-moved, waits-moved, granted-moved, drawn-moved, drawn-owns, released-moved, due-moved, cleared-moved}
 
@@ -157,6 +157,10 @@ module _ {n : ℕ} {s : State} {L : Ledger} (T : Tied n s L) where
       let here = leb-false SLOTS k c in
       let free-there = lowest-is-free (s .slots) (omega (arith, T .slots-long)) in
       used (L .seats k .stage) (L .seats k) (mine L k) (ap inUse (sym (T .sits k here .keeps)) ∙ free-there)
+
+  -- and below it, or where there is none, somebody sits
+  pub somebody-there : (k : ℕ) → k < SLOTS → k < lowestFree (s .slots) → L .seats k .stage ≡ Nobody → ⊥
+  somebody-there k here low e = clash (inUse (slotAt s k)) (lower-are-used (s .slots) k low) (ap inUse (keeps-at T k here Nobody e))
 
   module _ (r m k : ℕ) (lent : r < n) (mode : m ≤ 1) (here : k < SLOTS) (nobody : L .seats k .stage ≡ Nobody) where
     abbrev seat-then : Seat

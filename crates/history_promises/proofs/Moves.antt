@@ -22,11 +22,11 @@ use Rattle.agent_rules.specs.Life.{ticketCounter, releaseCounter}
 use Rattle.board_slots.specs.Slots.{SLOTS}
 use Rattle.board_rules.specs.Board.{State}
 use Rattle.history_promises.specs.Tickets.{Given, pastTheLast, ticketAt, sameKind, EarlierReleased}
-use Rattle.history_promises.specs.Ledger.{Stage, Seat, Ledger, free, put, seated, staged, mine, drawn, ticketReleased, ticketsNow, releasedAt}
+use Rattle.history_promises.specs.Ledger.{Stage, Seat, Ledger, free, put, seated, staged, mine, drawn, ticketReleased, ticketsNow, releasedAt, one, isOwing, owesOn, owed}
 use Rattle.history_promises.specs.Ledger.Stage.{Asks, Waits, Holds, Owes, Clears}
-use Rattle.history_promises.proofs.Counts.{one, clash, counted-nil, below-put}
+use Rattle.history_promises.proofs.Counts.{clash, counted-nil, below-put}
 use Rattle.history_promises.proofs.Words.{Agrees, topped, clearingFor, wordAtRest, agrees-same, agrees-drawn, agrees-owed, agrees-back, agrees-released, agrees-empty, topped-set, at-rest, rest-is-some}
-use Rattle.history_promises.proofs.Tied.{withTicket, requestFor, Owns, Closes, Facts, isNobody, hasTicket, mayClear, isOwing, Sits, Owner, Last, owesOn, owed, Tied, few-owed, OnlyOn, tied-after}
+use Rattle.history_promises.proofs.Tied.{withTicket, requestFor, Owns, Closes, Facts, isNobody, hasTicket, mayClear, Sits, Owner, Last, Tied, few-owed, OnlyOn, tied-after}
 use Rattle.history_promises.proofs.Others.{others-given, others-released, others-cleared, other-at, this-at, long-at, closes-released}
 use Rattle.history_promises.proofs.Sent.{wentTo}
 
@@ -58,7 +58,7 @@ wordNow s L i = getD (s .words) (L .seats i .about) 0
 pub clearing-last : (l : List Given) (p : ℕ) → suc p ≡ length l → topped l ≡ true → clearingFor l p ≡ wordAtRest l
 clearing-last l p f top = rw (top, eq-eqb (suc p) (length l) f) refl
 
-clearing-closes : (l : List Given) (p : ℕ) → (clearingFor l p ≡ 0 → ⊥) → (topped l ≡ true) × (suc p ≡ length l)
+pub clearing-closes : (l : List Given) (p : ℕ) → (clearingFor l p ≡ 0 → ⊥) → (topped l ≡ true) × (suc p ≡ length l)
 clearing-closes l p h = by (topped l) (eqb (suc p) (length l)) refl refl
   where
     by : (x y : Bool) → topped l ≡ x → eqb (suc p) (length l) ≡ y → (topped l ≡ true) × (suc p ≡ length l)

@@ -10,19 +10,13 @@ use native.Mathlib.Omega.{arith}
 use lib.ListN.{length, take}
 use Rattle.agent_ticket.specs.declared.Mode.{Mode}
 use Rattle.agent_ticket.specs.declared.Mode.the-variants.{Reader, Writer}
-use Rattle.history_promises.specs.Tickets.{Given, conflicts, pastTheLast, ticketAt, sameKind, counted, givenOf, EarlierReleased}
-use Rattle.history_promises.specs.Ledger.{asReleased, releasedAt}
-use Rattle.history_promises.proofs.Counts.{one, clash, true-or-false, counted-cons, counted-nil, counted-append, counted-one, counted-set}
+use Rattle.history_promises.specs.Tickets.{Given, conflicts, pastTheLast, ticketAt, sameKind, counted, givenOf, isReleased, releasedOf, EarlierReleased}
+use Rattle.history_promises.specs.Ledger.{asReleased, releasedAt, one}
+use Rattle.history_promises.proofs.Counts.{clash, true-or-false, counted-cons, counted-nil, counted-append, counted-one, counted-set}
 
--- released ones of a kind, and unreleased ones
-abbrev pub isReleased : Mode → Given → Bool
-isReleased k t = sameKind k (t .kind) && t .released
-
+-- unreleased ones of a kind
 abbrev pub isOpen : Mode → Given → Bool
 isOpen k t = sameKind k (t .kind) && not (t .released)
-
-abbrev pub releasedOf : Mode → List Given → ℕ
-releasedOf k l = counted (isReleased k) l
 
 abbrev pub openOf : Mode → List Given → ℕ
 openOf k l = counted (isOpen k) l

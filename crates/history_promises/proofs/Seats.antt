@@ -6,11 +6,14 @@ use mathlib.Core.Bool.{Bool, true, false}
 use mathlib.Core.Logic.{inl, inr, ⊎-elim}
 use mathlib.Core.List.{[], _∷_, _++_}
 use native.Mathlib.Omega.{arith}
-use borrow.Author.Tests.{leb-true, leb-false, ltb-false, eqb-false}
+use borrow.Author.Tests.{leb-true, leb-false, ltb-false, eqb-false, ne-eqb}
 use lib.Dec.{eqb, leb, ltb}
 use lib.ListN.{length}
+use Rattle.common.specs.Choice.{if_then_else_}
 use Rattle.common.proofs.Choices.{either-by}
 use Rattle.agent_ticket.specs.declared.Mode.{Mode}
+use Rattle.agent_ticket.specs.declared.Mode.the-variants.{Reader, Writer}
+use Rattle.agent_rules.specs.declared.Answer.the-variants as tells
 use Rattle.board_slots.specs.Slots.{SLOTS}
 use Rattle.board_rules.specs.Records.{RECORDS}
 use Rattle.board_rules.specs.declared.Answer.{Answer}
@@ -20,13 +23,13 @@ use Rattle.history_promises.specs.History.{fresh}
 use Rattle.history_promises.specs.Tickets.{Given, ticketAt}
 use Rattle.history_promises.specs.Ledger.{Stage, Ledger, mine}
 use Rattle.history_promises.specs.Ledger.Stage.{Nobody, Asks, Waits, Holds, Owes, Clears}
-use Rattle.history_promises.specs.Promises.{HasTicket, SeatHasItsTicket, TicketHasItsSeat, StepTells, ReleaseTells, ToldByStage, BegunIsFresh}
+use Rattle.history_promises.specs.Promises.{HasTicket, SeatHasItsTicket, TicketHasItsSeat, StepTells, ReleaseTells, ToldByStage, DueExactly, BegunIsFresh}
 use Rattle.history_promises.proofs.Counts.{clash, true-or-false}
 use Rattle.history_promises.proofs.Turns.{aheadNow}
-use Rattle.history_promises.proofs.Words.{topped, clearingFor, wordAtRest}
+use Rattle.history_promises.proofs.Words.{topped, topped-or, or-topped, clearingFor, wordAtRest, rest-is-some}
 use Rattle.history_promises.proofs.Tied.{Owns, Facts, Tied, isNobody, hasTicket}
 use Rattle.history_promises.proofs.Sent.{step-nobody, step-holds, step-owes, step-clears, step-waits, step-asks-full, step-asks-turn, release-nobody, release-asks, release-waits, release-owes, release-clears, release-holds}
-use Rattle.history_promises.proofs.Moves.{wordNow, clearing-last, facts-at}
+use Rattle.history_promises.proofs.Moves.{wordNow, clearing-last, clearing-closes, facts-at}
 use Rattle.history_promises.proofs.Kept.{keeps-at, lent-at}
 
 same-parts : {k k′ : Mode} {i i′ : ℕ} {b b′ : Bool} → k ≡ k′ → i ≡ i′ → b ≡ b′ → _≡_ {A = Given} (record { kind = k; slot = i; released = b }) (record { kind = k′; slot = i′; released = b′ })
@@ -97,6 +100,35 @@ module _ {n : ℕ} {s : State} {L : Ledger} (T : Tied n s L) where
       let lent = lent-to i Holds e refl in
       subst (λ (d : Done). ReleaseTells Holds (d .answer)) (sym (release-holds s i h (L .seats i) (mine L i) (omega (arith, T .words-long)) (omega (arith, T .most)) (keeps-at T i h Holds e)))
       (either-by (λ (d : Done). ReleaseTells Holds (d .answer)) (eqb (clearingFor (mine L i) (L .seats i .place)) 0) (λ z. inl refl) (λ z. inr refl))
+
+  -- clearing is due by the youngest ticket at the ceiling, and by no other
+  let-go-told :
+      (i : ℕ) → L .seats i .stage ≡ Holds →
+      released i s .answer ≡ (if eqb (clearingFor (mine L i) (L .seats i .place)) 0 then Told tells.Released else Told tells.ClearingDue)
+  let-go-told i e =
+      let lent = lent-to i Holds e refl in
+      ap (λ (d : Done). d .answer) (release-holds s i (in-board i Holds e refl) (L .seats i) (mine L i) (omega (arith, T .words-long)) (omega (arith, T .most)) (keeps-at T i (in-board i Holds e refl) Holds e)) ∙
+      by (eqb (clearingFor (mine L i) (L .seats i .place)) 0) _ _
+    where
+      by : (x : Bool) (d d′ : Done) → ((if x then d else d′) .answer) ≡ (if x then d .answer else d′ .answer)
+      by true d d′ = refl
+      by false d d′ = refl
+
+  pub due-exactly : DueExactly L (λ c. played c s .answer)
+  due-exactly i e =
+      let a = T .agrees (L .seats i .about) (lent-to i Holds e refl) in (
+        (λ h.
+            let c = clearing-closes (mine L i) (L .seats i .place) (eqb-false (clearingFor (mine L i) (L .seats i .place)) 0 (kept (eqb (clearingFor (mine L i) (L .seats i .place)) 0) (sym (let-go-told i e) ∙ h))) in
+            (omega (arith, c .1), ⊎-elim (λ w. (Writer, omega (arith, a .cap Writer))) (λ r. (Reader, omega (arith, a .cap Reader))) (topped-or (mine L i) (c .0)))),
+        (λ h.
+            let top = or-topped (mine L i) (h .1 .0) (omega (arith, h .1 .1)) in
+            let last : suc (L .seats i .place) ≡ length (mine L i) = omega (arith, h .0) in
+            let-go-told i e ∙ rw (ne-eqb (clearingFor (mine L i) (L .seats i .place)) 0 (λ z. rest-is-some (mine L i) top (sym (clearing-last (mine L i) (L .seats i .place) last top) ∙ z))) refl),
+      )
+    where
+      kept : (x : Bool) → (if x then Told tells.Released else Told tells.ClearingDue) ≡ Told tells.ClearingDue → x ≡ false
+      kept false q = refl
+      kept true q = let z : _≡_ {A = ℕ} 0 1 = cc in absurd (omega arith)
 
   pub told-by-stage : ToldByStage L (λ c. played c s .answer)
   unfolding stepped released

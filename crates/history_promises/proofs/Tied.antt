@@ -2,12 +2,11 @@
 -- Assumes nothing.
 use Prim.Native.Nat.{ℕ, suc, _<_, _≤_}
 use mathlib.Core.Path.{_≡_, refl, ap, sym, subst, _∙_}
-use mathlib.Core.Bool.{Bool, true, false, _&&_}
+use mathlib.Core.Bool.{Bool, true, false}
 use mathlib.Core.Logic.{_⊎_, inl, inr, ⊎-elim}
 use mathlib.Core.List.{List}
 use native.Mathlib.Omega.{arith}
-use borrow.Author.Tests.{eqb-true, eqb-false, ne-eqb}
-use lib.Dec.{eqb}
+use borrow.Author.Tests.{ne-eqb}
 use lib.ListN.{length, getD}
 use Rattle.common.proofs.Choices.{same-or-not}
 use Rattle.agent_ticket.specs.declared.Mode.{Mode}
@@ -18,10 +17,10 @@ use Rattle.agent_request.specs.declared.Phase.{Phase}
 use Rattle.agent_request.specs.declared.Phase.the-variants.{Waiting, Held, Owing, Clearing}
 use Rattle.board_slots.specs.Slots.{SLOTS}
 use Rattle.board_rules.specs.Board.{State}
-use Rattle.history_promises.specs.Tickets.{Given, ticketAt, sameKind, EarlierReleased}
-use Rattle.history_promises.specs.Ledger.{Stage, Seat, Ledger}
+use Rattle.history_promises.specs.Tickets.{Given, ticketAt, EarlierReleased}
+use Rattle.history_promises.specs.Ledger.{Stage, Seat, Ledger, owesOn, owed}
 use Rattle.history_promises.specs.Ledger.Stage.{Nobody, Asks, Waits, Holds, Owes, Clears}
-use Rattle.history_promises.proofs.Counts.{clash, true-or-false, below, below-lt, below-same}
+use Rattle.history_promises.proofs.Counts.{clash, true-or-false, below-lt, below-same}
 use Rattle.history_promises.proofs.Turns.{ticketOf}
 use Rattle.history_promises.proofs.Words.{Agrees, agrees-same, topped, clearingFor}
 
@@ -87,14 +86,6 @@ mayClear Holds = true
 mayClear Owes = false
 mayClear Clears = true
 
-abbrev pub isOwing : Stage → Bool
-isOwing Nobody = false
-isOwing Asks = false
-isOwing Waits = false
-isOwing Holds = false
-isOwing Owes = true
-isOwing Clears = false
-
 pub record Sits (n : ℕ) (t : Seat) (l : List Given) (i : ℕ) (q : Request) : Type 0 where
   pub keeps : q ≡ requestFor (t .stage) t l
   pub lent : (isNobody (t .stage) ≡ true) ⊎ (t .about < n)
@@ -114,13 +105,6 @@ pub record Last (seats : ℕ → Seat) (l : List Given) (r : ℕ) : Type 0 where
   pub about : seats slot .about ≡ r
   pub final : suc (seats slot .place) ≡ length l
   pub may : mayClear (seats slot .stage) ≡ true
-
--- How many withdrawals of a kind are owed on a record.
-abbrev pub owesOn : ℕ → Mode → Seat → Bool
-owesOn r k t = isOwing (t .stage) && (eqb (t .about) r && sameKind k (t .kind))
-
-abbrev pub owed : (ℕ → Seat) → ℕ → Mode → ℕ
-owed seats r k = below (λ i. owesOn r k (seats i)) SLOTS
 
 pub record Tied (n : ℕ) (s : State) (L : Ledger) : Type 0 where
   pub some : 1 ≤ n

@@ -18,9 +18,9 @@ use Rattle.agent_ticket.specs.declared.Mode.{Mode}
 use Rattle.agent_ticket.specs.declared.Mode.the-variants.{Reader, Writer}
 use Rattle.agent_ticket.specs.declared.Turn.{Turn}
 use Rattle.agent_ticket.specs.declared.Turn.the-variants as turn
-use Rattle.history_promises.specs.Tickets.{Given, conflicts, pastTheLast, ticketAt, sameKind, givenOf, EarlierReleased, AllReleased}
+use Rattle.history_promises.specs.Tickets.{Given, conflicts, pastTheLast, ticketAt, sameKind, givenOf, releasedOf, EarlierReleased, AllReleased}
 use Rattle.history_promises.proofs.Counts.{clash, none-each, each-none}
-use Rattle.history_promises.proofs.Order.{isOpen, openOf, releasedOf, Ordered, before-open, same-eq}
+use Rattle.history_promises.proofs.Order.{isOpen, openOf, Ordered, before-open, same-eq}
 
 abbrev pub drawnAt : ℕ → ℕ → Ticket
 drawnAt x s = record { 0 = record { 0 = x }; 1 = record { 0 = s } }

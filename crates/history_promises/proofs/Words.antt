@@ -23,10 +23,11 @@ use Rattle.agent_ceiling.specs.Ceiling.{CEIL, LAST, fullAt, restOf, clearingWor
 use Rattle.agent_ticket.specs.declared.Mode.{Mode}
 use Rattle.agent_ticket.specs.declared.Mode.the-variants.{Reader, Writer}
 use Rattle.agent_rules.specs.Life.{ticketCounter, releaseCounter}
-use Rattle.history_promises.specs.Tickets.{Given, ticketAt, sameKind, givenOf, EarlierReleased, AllReleased}
-use Rattle.history_promises.specs.Ledger.{releasedAt}
-use Rattle.history_promises.proofs.Counts.{one, one-le, clash, counted-append, counted-one, counted-nil}
-use Rattle.history_promises.proofs.Order.{released-one, isReleased, releasedOf, openOf, Ordered, empty, append-ordered, release-ordered, released-set, given-set, all-split}
+use Rattle.history_promises.specs.Tickets.{Given, ticketAt, sameKind, givenOf, isReleased, releasedOf, EarlierReleased, AllReleased}
+use Rattle.history_promises.specs.Ledger.{releasedAt, one}
+use Rattle.history_promises.specs.Promises.{countersOf}
+use Rattle.history_promises.proofs.Counts.{one-le, clash, counted-append, counted-one, counted-nil}
+use Rattle.history_promises.proofs.Order.{released-one, openOf, Ordered, empty, append-ordered, release-ordered, released-set, given-set, all-split}
 use Rattle.history_promises.proofs.Turns.{all-released-none, none-all-released}
 
 abbrev pub four : ℕ → ℕ → ℕ → ℕ → Counters
@@ -34,10 +35,6 @@ four a b c d = record { nx = record { 0 = a }; ns = record { 0 = b }; mx = recor
 
 four-same : {a b c d a′ b′ c′ d′ : ℕ} → a ≡ a′ → b ≡ b′ → c ≡ c′ → d ≡ d′ → four a b c d ≡ four a′ b′ c′ d′
 four-same p q r s = cc
-
--- the counters of a record with the tickets l, on which o k withdrawals of the kind k are owed
-abbrev pub countersOf : List Given → (Mode → ℕ) → Counters
-countersOf l o = four (releasedOf Writer l) (releasedOf Reader l) (givenOf Writer l + o Writer) (givenOf Reader l + o Reader)
 
 -- the ceiling of either kind is reached
 abbrev pub topped : List Given → Bool
@@ -333,6 +330,10 @@ module _ {l : List Given} {o : Mode → ℕ} {w : ℕ} (a : Agrees l o w) where
       four-same
       (omega (arith, all-split Writer l, all-released-none l r Writer)) (omega (arith, all-split Reader l, all-released-none l r Reader))
       (omega (arith, n Writer)) (omega (arith, n Reader)))
+
+  -- the word is what is counted
+  pub word-counted : w ≡ joinOf (countersOf l o)
+  word-counted = sym (word-comes-back w (a .fits)) ∙ ap joinOf (a .word)
 
   -- no counter exceeds 33,023
   pub counters-small : ((k : Mode) → o k ≤ 255) → (c : Counter) → heldBy c w ≤ 33023

@@ -1,5 +1,5 @@
 -- Empty boards that demand 3 refuses, whatever their words. Statements only: proofs/ has why each holds.
-use Prim.Native.Nat.{ℕ}
+use Prim.Native.Nat.{ℕ, _≤_}
 use mathlib.Core.Path.{_≡_}
 use mathlib.Core.List.{[], _∷_}
 use Rattle.agent_rules.specs.declared.Answer.the-variants.{Waiting}
@@ -8,7 +8,7 @@ use Rattle.board_call.specs.declared.Call.the-variants.{Open, Step}
 use Rattle.board_rules.specs.declared.Answer.{Answer}
 use Rattle.board_rules.specs.declared.Answer.the-variants.{Refused, Told}
 use Rattle.board_rules.specs.Board.{State}
-use Rattle.history_promises.specs.Ledger.{Ledger, mine}
+use Rattle.history_promises.specs.Ledger.{Ledger, blank, mine}
 use Rattle.history_promises.specs.Ledger.Stage.{Asks}
 use Rattle.history_promises.specs.History.{ledgerAfter}
 use Rattle.history_promises.specs.History.Move.{Do}
@@ -29,3 +29,11 @@ WaitingFails =
 -- and who has opened does ask.
 abbrev pub OneAsks : Type 0
 OneAsks = (ledgerAfter 1 (Do (Open 0 1) ∷ []) .seats 0 .stage ≡ Asks) × (mine (ledgerAfter 1 (Do (Open 0 1) ∷ [])) 0 ≡ [])
+
+-- Nor may a fresh board refuse every open.
+abbrev pub OpeningFails : Type 0
+OpeningFails =
+    (n : ℕ) (s : State) (says : Call → Answer) →
+    1 ≤ n →
+    ((r m : ℕ) → (x : ℕ) × (says (Open r m) ≡ Refused x)) →
+    Demand n blank s says → ⊥

@@ -1,6 +1,6 @@
 -- The ledger: what calls and their answers tell of tickets and slots. No definition here knows a lock word, a counter or what a slot keeps.
-use Prim.Native.Nat.{ℕ}
-use mathlib.Core.Bool.{true, false}
+use Prim.Native.Nat.{ℕ, zero, suc, _+_}
+use mathlib.Core.Bool.{Bool, true, false, _&&_}
 use mathlib.Core.List.{List, [], _∷_, _++_}
 use lib.Dec.{eqb}
 use lib.ListN.{length, set}
@@ -8,13 +8,14 @@ use Rattle.common.specs.Choice.{if_then_else_}
 use Rattle.agent_ticket.specs.declared.Mode.{Mode}
 use Rattle.agent_ticket.specs.declared.Mode.the-variants.{Reader}
 use Rattle.agent_request.specs.Request.{modeOf}
+use Rattle.board_slots.specs.Slots.{SLOTS}
 use Rattle.board_call.specs.declared.Call.{Call}
 use Rattle.board_call.specs.declared.Call.the-variants.{Open, Step, Release, Show}
 use Rattle.agent_rules.specs.declared.Answer.{Answer as Tells}
 use Rattle.agent_rules.specs.declared.Answer.the-variants.{WrongPhase, Granted, Waiting, Full, Withdrawn, Released, ClearingDue, Cleared, NotYetClear, Passed}
 use Rattle.board_rules.specs.declared.Answer.{Answer}
 use Rattle.board_rules.specs.declared.Answer.the-variants.{Refused, Begun, Opened, Told, Shown}
-use Rattle.history_promises.specs.Tickets.{Given, ticketAt}
+use Rattle.history_promises.specs.Tickets.{Given, ticketAt, sameKind}
 
 -- How far a slot has come: nobody sits there; it asks, waits or holds; a withdrawal is owed; or it clears.
 pub data Stage : Type 0 where
@@ -61,6 +62,32 @@ staged g t = record { stage = g; about = t .about; kind = t .kind; place = t .pl
 -- The tickets of the record that a slot is about.
 abbrev pub mine : Ledger → ℕ → List Given
 mine L i = L .tickets (L .seats i .about)
+
+-- How many numbers below n pass a test: each that does counts one.
+abbrev pub one : Bool → ℕ
+one true = 1
+one false = 0
+
+unfoldable pub below : (ℕ → Bool) → ℕ → ℕ
+below f zero = zero
+below f (suc n) = one (f n) + below f n
+
+-- Rule 9.3: A slot that was told full owes a withdrawal until it is told withdrawn.
+abbrev pub isOwing : Stage → Bool
+isOwing Nobody = false
+isOwing Asks = false
+isOwing Waits = false
+isOwing Holds = false
+isOwing Owes = true
+isOwing Clears = false
+
+-- Whether a seat owes a withdrawal of the kind k on the record r,
+abbrev pub owesOn : ℕ → Mode → Seat → Bool
+owesOn r k t = isOwing (t .stage) && (eqb (t .about) r && sameKind k (t .kind))
+
+-- and how many of the 256 slots do.
+abbrev pub owed : (ℕ → Seat) → ℕ → Mode → ℕ
+owed seats r k = below (λ i. owesOn r k (seats i)) SLOTS
 
 -- Rule 9.2: A slot that asked is given a ticket, the youngest of its record.
 abbrev pub drawn : ℕ → Stage → Ledger → Ledger

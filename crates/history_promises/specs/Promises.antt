@@ -1,23 +1,25 @@
 -- Demand 3 of docs/RULES.md, section 11: first that the ledger is read rightly, then D3.1 to D3.7 in order, then all of it as one.
 -- Statements only: proofs/ has why each holds.
-use Prim.Native.Nat.{ℕ, _<_, _≤_}
+use Prim.Native.Nat.{ℕ, suc, _+_, _<_, _≤_}
 use mathlib.Core.Path.{_≡_}
 use mathlib.Core.Bool.{false}
 use mathlib.Core.Logic.{_↔_, _⊎_}
 use mathlib.Core.List.{List}
 use lib.ListN.{length, getD}
-use Rattle.word_layout.specs.Word.{heldBy}
+use Rattle.word_layout.specs.Word.{heldBy, joinOf}
+use Rattle.word_layout.specs.declared.Counters.{Counters}
 use Rattle.word_layout.specs.declared.Counter.{Counter}
 use Rattle.agent_ticket.specs.declared.Mode.{Mode}
 use Rattle.agent_ticket.specs.declared.Mode.the-variants.{Reader, Writer}
+use Rattle.board_slots.specs.Slots.{SLOTS}
 use Rattle.board_call.specs.declared.Call.{Call}
 use Rattle.board_call.specs.declared.Call.the-variants.{Open, Step, Release}
 use Rattle.agent_rules.specs.declared.Answer.the-variants.{Granted, Waiting, Full, Withdrawn, Released, ClearingDue, Cleared, NotYetClear, Passed}
 use Rattle.board_rules.specs.declared.Answer.{Answer}
 use Rattle.board_rules.specs.declared.Answer.the-variants.{Refused, Begun, Opened, Told}
 use Rattle.board_rules.specs.Board.{State, stateOf, begun}
-use Rattle.history_promises.specs.Tickets.{ticketAt, givenOf, EarlierReleased, AllReleased}
-use Rattle.history_promises.specs.Ledger.{Ledger, Stage, mine}
+use Rattle.history_promises.specs.Tickets.{Given, ticketAt, givenOf, releasedOf, EarlierReleased, AllReleased}
+use Rattle.history_promises.specs.Ledger.{Ledger, Stage, mine, owed}
 use Rattle.history_promises.specs.Ledger.Stage.{Nobody, Asks, Waits, Holds, Owes, Clears}
 use Rattle.history_promises.specs.History.{Move, fresh, ledgerAfter, boardAfter, answerAfter}
 
@@ -64,16 +66,49 @@ ReleaseTells Clears a = a ≡ Refused 5
 abbrev pub ToldByStage : Ledger → (Call → Answer) → Type 0
 ToldByStage L says = (i : ℕ) → StepTells (L .seats i .stage) (says (Step i)) × ReleaseTells (L .seats i .stage) (says (Release i))
 
--- What an open is told: a refusal, or a slot in which nobody sits. So no open takes its slot from one who asks, waits, holds, owes or clears.
-abbrev pub OpenTells : Ledger → Answer → Type 0
-OpenTells L a = ((n : ℕ) × (a ≡ Refused n)) ⊎ ((k : ℕ) × (a ≡ Opened k) × (L .seats k .stage ≡ Nobody))
+-- Rules 3.4 and 3.10: A slot that lets go is told that a clearing is due if its ticket is the youngest of its record and 32,768 tickets of
+-- some kind have been given there, and only then: it is the ticket that reached the ceiling, since behind it none is given.
+abbrev pub DueExactly : Ledger → (Call → Answer) → Type 0
+DueExactly L says =
+    (i : ℕ) →
+    L .seats i .stage ≡ Holds →
+    (says (Release i) ≡ Told ClearingDue) ↔
+    ((suc (L .seats i .place) ≡ length (mine L i)) × ((k : Mode) × (givenOf k (mine L i) ≡ 32768)))
 
-abbrev pub OpensWhereNobodySits : Ledger → (Call → Answer) → Type 0
-OpensWhereNobodySits L says = (r m : ℕ) → OpenTells L (says (Open r m))
+-- Somebody sits in each of the 256 slots.
+abbrev pub AllTaken : Ledger → Type 0
+AllTaken L = (k : ℕ) → k < SLOTS → L .seats k .stage ≡ Nobody → ⊥
+
+-- What an open is told on a board of n words: a refusal if there is no such record, or the mode is neither 0 nor 1, or all slots are taken,
+-- and only then; else one of the 256 slots, in which nobody sits. So no open takes its slot from one who asks, waits, holds, owes or clears.
+abbrev pub OpenTells : ℕ → Ledger → ℕ → ℕ → Answer → Type 0
+OpenTells n L r m a =
+    ((x : ℕ) × (a ≡ Refused x) × ((n ≤ r) ⊎ ((1 < m) ⊎ AllTaken L))) ⊎
+    ((k : ℕ) × (a ≡ Opened k) × (r < n) × (m ≤ 1) × (k < SLOTS) × (L .seats k .stage ≡ Nobody))
+
+abbrev pub OpensWhereNobodySits : ℕ → Ledger → (Call → Answer) → Type 0
+OpensWhereNobodySits n L says = (r m : ℕ) → OpenTells n L r m (says (Open r m))
 
 -- A record never has more than 32,768 tickets of a kind.
 abbrev pub NeverMore : ℕ → Ledger → Type 0
 NeverMore n L = (r : ℕ) (k : Mode) → r < n → givenOf k (L .tickets r) ≤ 32768
+
+-- Rules 1.2, 9.2 and 9.3: The counters of a record with the tickets l, on which o k withdrawals of the kind k are owed: nX and nS count what
+-- was released, mX and mS what was given and what is owed.
+abbrev pub countersOf : List Given → (Mode → ℕ) → Counters
+countersOf l o =
+    record {
+      nx = record { 0 = releasedOf Writer l };
+      ns = record { 0 = releasedOf Reader l };
+      mx = record { 0 = givenOf Writer l + o Writer };
+      ms = record { 0 = givenOf Reader l + o Reader };
+    }
+
+-- There are n words and 256 slots, and each word is what the ledger counts of its record.
+abbrev pub WordsAreCounted : ℕ → Ledger → State → Type 0
+WordsAreCounted n L s =
+    (length (s .words) ≡ n) × (length (s .slots) ≡ SLOTS) ×
+    ((r : ℕ) → r < n → getD (s .words) r 0 ≡ joinOf (countersOf (L .tickets r) (owed (L .seats) r)))
 
 -- Then D3.1 to D3.7.
 
@@ -140,14 +175,16 @@ ClearedThen L says =
 abbrev pub CountersStaySmall : ℕ → State → Type 0
 CountersStaySmall n s = (r : ℕ) (k : Counter) → r < n → heldBy k (getD (s .words) r 0) ≤ 33023
 
--- All of demand 3, of n words, a ledger, a board, and what it answers next: the first four fields say what the ledger is read as, the
--- others are D3.1 to D3.7 of docs/RULES.md in order, and `cleared-then`, beside D3.6, is not asked for.
+-- All of demand 3, of n words, a ledger, a board, and what it answers next: the fields up to `words-are-counted` say what the ledger is
+-- read as, the others are D3.1 to D3.7 of docs/RULES.md in order, and `cleared-then`, beside D3.6, is not asked for.
 pub record Demand (n : ℕ) (L : Ledger) (s : State) (says : Call → Answer) : Type 0 where
   pub seat-has-its-ticket : SeatHasItsTicket L
   pub ticket-has-its-seat : TicketHasItsSeat n L
   pub told-by-stage : ToldByStage L says
-  pub opens-where-nobody-sits : OpensWhereNobodySits L says
+  pub due-exactly : DueExactly L says
+  pub opens-where-nobody-sits : OpensWhereNobodySits n L says
   pub never-more : NeverMore n L
+  pub words-are-counted : WordsAreCounted n L s
   pub alone : WriterHoldsAlone L
   pub drawn-granted : DrawnIsGrantedExactly L says
   pub waiting-granted : WaitingIsGrantedExactly L says

@@ -1,7 +1,7 @@
 -- The tickets of one record, oldest first, as the answers tell of them.
 use Prim.Native.Nat.{ℕ, zero, suc, _<_}
 use mathlib.Core.Path.{_≡_}
-use mathlib.Core.Bool.{Bool, true, false}
+use mathlib.Core.Bool.{Bool, true, false, _&&_}
 use mathlib.Core.List.{List, [], _∷_}
 use lib.ListN.{getD}
 use Rattle.common.specs.Choice.{if_then_else_}
@@ -42,6 +42,14 @@ counted f (a ∷ l) = if f a then suc (counted f l) else counted f l
 -- How many tickets of a kind had been given.
 abbrev pub givenOf : Mode → List Given → ℕ
 givenOf k l = counted (λ (t : Given). sameKind k (t .kind)) l
+
+-- A ticket is of a kind and has been released,
+abbrev pub isReleased : Mode → Given → Bool
+isReleased k t = sameKind k (t .kind) && t .released
+
+-- and how many are.
+abbrev pub releasedOf : Mode → List Given → ℕ
+releasedOf k l = counted (isReleased k) l
 
 -- Every ticket before the place i that conflicts with the kind k has been released.
 abbrev pub EarlierReleased : List Given → Mode → ℕ → Type 0

@@ -3,7 +3,7 @@
 -- go and is to clear; slot 1 withdraws; slot 0 clears. What each is told follows from what holds of every history: demand 3.
 -- Assumes nothing.
 use Prim.Native.Nat.{ℕ, zero, suc, _+_, _<_}
-use mathlib.Core.Path.{_≡_, refl, ap, subst, _∙_}
+use mathlib.Core.Path.{_≡_, refl, ap, sym, subst, _∙_}
 use mathlib.Core.Bool.{Bool, true, false}
 use mathlib.Core.Logic.{inr, ⊎-elim}
 use mathlib.Core.List.{List, [], _∷_, _++_}
@@ -23,19 +23,17 @@ use Rattle.board_rules.specs.declared.Answer.{Answer}
 use Rattle.board_rules.specs.declared.Answer.the-variants.{Opened, Told}
 use Rattle.board_rules.specs.Board.{State, stateOf, slotAt, opened}
 use Rattle.history_promises.specs.Tickets.{Given, pastTheLast, ticketAt, sameKind, counted, givenOf, AllReleased}
-use Rattle.history_promises.specs.Ledger.{Seat, Ledger, blank, free, seated, staged, drawn, ticketReleased, releasedAt, notedCall}
+use Rattle.history_promises.specs.Ledger.{Seat, Ledger, blank, free, seated, staged, drawn, ticketReleased, releasedAt, notedCall, one, isOwing}
 use Rattle.history_promises.specs.Ledger.Stage.{Nobody, Asks, Holds, Owes, Clears}
 use Rattle.history_promises.specs.History.{Move, fresh, made, after, events, noted, readOff, ledgerAfter, boardAfter, answerAfter}
 use Rattle.history_promises.specs.History.Move.{Do}
 use Rattle.history_promises.specs.Promises.{ToldByStage, Demand}
 use Rattle.history_reached.specs.Reached.{FullIsReached, OwesIsReached, ClearingDueIsReached}
 use Rattle.history_reached.specs.Reached.{ClearsIsReached, NotYetClearIsReached, ClearedIsReached}
-use Rattle.history_promises.proofs.Counts.{one, clash, true-or-false, counted-append, counted-one}
+use Rattle.history_promises.proofs.Counts.{clash, true-or-false, counted-append, counted-one}
 use Rattle.history_promises.proofs.Order.{given-set}
-use Rattle.history_promises.proofs.Words.{topped-or, or-topped}
-use Rattle.history_promises.proofs.Tied.{Tied, hasTicket, mayClear, isOwing}
+use Rattle.history_promises.proofs.Tied.{Tied, hasTicket}
 use Rattle.history_promises.proofs.Kept.{keeps-at, tied}
-use Rattle.history_promises.proofs.Seats.{facts-of}
 use Rattle.history_promises.proofs.Demand.{demand}
 
 -- an open takes the slot below which all are in use
@@ -183,12 +181,11 @@ module _ {j : ℕ} (Q : Quiet j) where
 
   -- Below the ceiling its release is told as one, and all is quiet again.
   only-at-the-top : says R2 (Release 0) ≡ Told ClearingDue → suc j ≡ 32768
-  only-at-the-top e =
-      let f = facts-of (is-tied (then R2 (Release 0) (Told ClearingDue) e)) 0 Clears refl refl in
-      ⊎-elim
-      (λ w. absurd (omega (arith, given-back Writer, Q .writers)))
-      (λ r. omega (arith, given-back Reader, Q .readers, Q .low))
-      (topped-or back (f .top))
+  only-at-the-top e = let d = demands R2 .due-exactly 0 refl .0 e in by (d .1 .0) (d .1 .1)
+    where
+      by : (k : Mode) → givenOf k more ≡ 32768 → suc j ≡ 32768
+      by Writer w = absurd (omega (arith, given-more Writer, Q .writers))
+      by Reader r = omega (arith, given-more Reader, Q .readers)
 
   next : suc j < 32768 → Quiet (suc j)
   next h =
@@ -228,18 +225,9 @@ module _ {j : ℕ} (Q : Quiet j) where
     R4 : Reached L4
     R4 = then R3 (Step 1) (Told Full) full
 
-    -- slot 0 lets go, and is to clear: if it were free, nobody could;
-    somebody-clears : says R4 (Release 0) ≡ Told Released → ⊥
-    somebody-clears e =
-        let R = then R4 (Release 0) (Told Released) e in
-        let w = is-tied R .last 0 (omega arith) (or-topped back Reader (omega (arith, given-back Reader, Q .readers))) in
-        clash _ (w .may) (nobody-may (w .slot))
-      where
-        nobody-may : (i : ℕ) → mayClear (ticketReleased 0 free L4 .seats i .stage) ≡ false
-        nobody-may = by-slot _ refl refl (λ i e f. rw (e, f, Q .nobody i) refl)
-
+    -- slot 0 lets go, and is to clear: its ticket is the youngest, and the last that is given;
     due : says R4 (Release 0) ≡ Told ClearingDue
-    due = ⊎-elim (λ e. absurd (somebody-clears e)) (λ e. e) (tells R4 0 .1)
+    due = demands R4 .due-exactly 0 refl .1 (omega (arith, length-append old (ticket ∷ [])), (Reader, omega (arith, given-more Reader, Q .readers)))
 
     abbrev L5 : Ledger
     L5 = ticketReleased 0 (staged Clears (L4 .seats 0)) L4
@@ -247,9 +235,12 @@ module _ {j : ℕ} (Q : Quiet j) where
     R5 : Reached L5
     R5 = then R4 (Release 0) (Told ClearingDue) due
 
-    -- it is not yet clear, since slot 1 owes;
+    -- it is not yet clear, since slot 1 owes, though nobody has a ticket;
     not-yet : says R5 (Step 0) ≡ Told NotYetClear
     not-yet = ⊎-elim (λ e. absurd (demands R5 .cleared-only 0 e .2 1 refl refl)) (λ e. e) (tells R5 0 .0)
+
+    released-by-then : AllReleased (L5 .tickets 0)
+    released-by-then = all-released R5 (by-slot _ refl refl (λ i e f. rw (e, f, Q .nobody i) refl))
 
     -- slot 1 withdraws,
     abbrev L6 : Ledger
@@ -298,7 +289,9 @@ pub clears-is-reached : ClearsIsReached
 clears-is-reached = (R5 top refl .moves, ap (λ (L : Ledger). L .seats 0 .stage) (R5 top refl .ledger))
 
 pub not-yet-clear-is-reached : NotYetClearIsReached
-not-yet-clear-is-reached = (R5 top refl .moves, not-yet top refl)
+not-yet-clear-is-reached =
+    let R = R5 top refl in
+    (R .moves, not-yet top refl, subst (λ (L : Ledger). AllReleased (L .tickets 0)) (sym (R .ledger)) (released-by-then top refl), ap (λ (L : Ledger). L .seats 1 .stage) (R .ledger))
 
 pub cleared-is-reached : ClearedIsReached
 cleared-is-reached = (R6 top refl .moves, cleared top refl)

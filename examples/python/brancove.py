@@ -1,0 +1,111 @@
+"""
+The Brancove agent for Python: include/brancove.h by ctypes, name by name. What each function does is said there and in docs/RULES.md.
+
+No lock rule is here: the functions are those of libbrancove.so, which examples/python/build makes of the proved archive. They send nothing
+and keep nothing: the caller owns the request, sends the verb to the record's lock word, and hands the word that was there to the matching
+`_takes`. A number that does not fit its type is a ValueError, where ctypes alone would cut it.
+"""
+import ctypes
+import os
+from ctypes import c_uint8, c_uint16, c_uint64
+
+# The phase of a request.
+PHASE_FREE, PHASE_ASKING, PHASE_WAITING, PHASE_HELD, PHASE_OWING, PHASE_CLEARING = range(6)
+
+# The mode of a request.
+READER, WRITER = 0, 1
+
+# The kind of a verb.
+VERB_NOTHING, VERB_ADD, VERB_READ, VERB_SWAP = range(4)
+
+# The number of an answer.
+ACCEPTED, NO_SUCH_MODE, WRONG_PHASE = 0, 3, 5
+
+# The outcome of an accepted answer; TOLD_NOTHING comes with a refusal.
+TOLD_NOTHING = 0
+TOLD_GRANTED, TOLD_WAITING, TOLD_FULL, TOLD_WITHDRAWN, TOLD_RELEASED, TOLD_CLEARING_DUE, TOLD_CLEARED, TOLD_NOT_YET_CLEAR = range(2, 10)
+TOLD_PASSED = 11
+
+
+class Request(ctypes.Structure):
+    """A request: 16 bytes, all zero when free. It may lie in any memory: Request.from_buffer puts it there."""
+    _fields_ = [("record", c_uint16), ("mode", c_uint8), ("phase", c_uint8), ("x", c_uint16), ("s", c_uint16), ("clearing", c_uint64)]
+
+
+class Verb(ctypes.Structure):
+    """A verb to send to the lock word of the request's record."""
+    _fields_ = [("kind", c_uint8), ("first", c_uint64), ("second", c_uint64)]
+
+
+class Told(ctypes.Structure):
+    """What a request is told."""
+    _fields_ = [("number", c_uint8), ("outcome", c_uint8), ("ahead", c_uint64)]
+
+
+class Counters(ctypes.Structure):
+    """The four counters of a lock word: releases of writers and readers, then their next tickets."""
+    _fields_ = [("nx", c_uint16), ("ns", c_uint16), ("mx", c_uint16), ("ms", c_uint16)]
+
+    def __str__(self):
+        return "{%d, %d, %d, %d}" % (self.nx, self.ns, self.mx, self.ms)
+
+
+def _layout(struct, size, *offsets):
+    """The layout that the archive was compiled for."""
+    if ctypes.sizeof(struct) != size or tuple(getattr(struct, name).offset for name, _ in struct._fields_) != offsets:
+        raise ImportError("brancove: %s has another layout here than in include/brancove.h" % struct.__name__)
+
+
+_layout(Request, 16, 0, 2, 3, 4, 6, 8)
+_layout(Verb, 24, 0, 8, 16)
+_layout(Told, 16, 0, 1, 8)
+_layout(Counters, 8, 0, 2, 4, 6)
+
+
+class _Kept:
+    """An argument: a request that the caller keeps. ctypes would also take None, which is no request."""
+    @staticmethod
+    def from_param(request):
+        if not isinstance(request, Request):
+            raise TypeError("a brancove.Request is wanted")
+        return ctypes.byref(request)
+
+
+def _number(kind):
+    """An argument: a number of that kind, and nothing above it."""
+    class Number:
+        @staticmethod
+        def from_param(number):
+            if number >> 8 * ctypes.sizeof(kind) != 0:
+                raise ValueError("%d does not fit %d bytes" % (number, ctypes.sizeof(kind)))
+            return kind(number)
+    return Number
+
+
+def _load():
+    root = os.path.dirname(os.path.dirname(os.path.dirname(os.path.abspath(__file__))))
+    path = os.environ.get("BRANCOVE_LIB") or os.path.join(root, "target", "python", "libbrancove.so")
+    if not os.path.exists(path):
+        raise ImportError("brancove: there is no %s: examples/python/build makes it" % path)
+    try:
+        return ctypes.CDLL(os.path.abspath(path))
+    except OSError as error:
+        raise ImportError("brancove: the library does not load: %s" % error) from None
+
+
+def _function(name, result, *arguments):
+    try:
+        function = getattr(_library, "brancove_" + name)
+    except AttributeError as error:
+        raise ImportError("brancove: the library is not what examples/python/build makes: %s" % error) from None
+    function.restype, function.argtypes = result, arguments
+    return function
+
+
+_library = _load()
+ask = _function("ask", c_uint8, _Kept, _number(c_uint16), _number(c_uint8))
+step_sends = _function("step_sends", Verb, _Kept)
+release_sends = _function("release_sends", Verb, _Kept)
+step_takes = _function("step_takes", Told, _Kept, _number(c_uint64))
+release_takes = _function("release_takes", Told, _Kept, _number(c_uint64))
+split = _function("split", Counters, _number(c_uint64))
