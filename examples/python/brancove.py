@@ -86,7 +86,8 @@ def _load():
     root = os.path.dirname(os.path.dirname(os.path.dirname(os.path.abspath(__file__))))
     path = os.environ.get("BRANCOVE_LIB") or os.path.join(root, "target", "python", "libbrancove.so")
     if not os.path.exists(path):
-        raise ImportError("brancove: there is no %s: examples/python/build makes it" % path)
+        why = "which BRANCOVE_LIB names" if os.environ.get("BRANCOVE_LIB") else "examples/python/build makes it"
+        raise ImportError("brancove: there is no %s: %s" % (path, why))
     try:
         return ctypes.CDLL(os.path.abspath(path))
     except OSError as error:
