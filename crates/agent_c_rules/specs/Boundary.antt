@@ -1,5 +1,6 @@
 -- What a caller in C gets of the agent: its verbs and its answers as plain numbers.
-use Prim.Native.Nat.{ℕ}
+use Prim.Native.Nat.{ℕ, _<_}
+use mathlib.Core.Path.{_≡_}
 use lib.Dec.{ltb}
 use Rattle.common.specs.Choice.{if_then_else_}
 use Rattle.agent_request.specs.Request.{inUse, openedRequest}
@@ -39,3 +40,7 @@ askedOf q r m =
     if ltb 1 m then refusedBy 3 q else
     if inUse q then refusedBy 5 q else
     record { request = openedRequest r m; number = 0 }
+
+-- Demand D1.3: an ask that is refused leaves the request.
+abbrev pub AskRefusedKeeps : Type 0
+AskRefusedKeeps = (q : Request) (r m : ℕ) → 0 < askedOf q r m .number → askedOf q r m .request ≡ q
