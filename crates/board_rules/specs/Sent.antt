@@ -1,5 +1,5 @@
--- A mirror of a part of `Board`: a verb sent for one request, and its result taken, without the table of slots. Nothing here needs belief:
--- `VisitIsPlayed` (Promises) says that visiting a slot so is playing the call.
+-- A mirror of a part of `Board`: a verb sent for one request, and its result taken, without the table of slots. `VisitIsPlayed` (Promises) says
+-- that visiting a slot so is playing the call, so nothing here needs belief but `handed`: what a visit hands back is its request and its answer.
 use Prim.Native.Nat.{ℕ}
 use mathlib.Core.List.{List}
 use lib.Dec.{eqb}
