@@ -90,8 +90,9 @@ mod plain {
             return told(2);
         }
         q.phase = 2;
+        let (writers, readers) = (q.x - n_x, if writer { q.s - n_s } else { 0 });
         Told {
-            ahead: u64::from(q.x - n_x) + u64::from(q.s.saturating_sub(n_s)),
+            ahead: u64::from(writers) + u64::from(readers),
             ..told(3)
         }
     }

@@ -200,7 +200,10 @@ impl Board {
         }
         request.phase = Phase::Waiting;
         let writers = u64::from(request.x - v.n_x);
-        let readers = u64::from(request.s.saturating_sub(v.n_s));
+        let readers = match request.writer {
+            true => u64::from(request.s - v.n_s),
+            false => 0,
+        };
         came_to(3, writers + readers)
     }
 

@@ -173,10 +173,18 @@ impl Request {
             return Outcome::Granted;
         }
         self.enter(Phase::Waiting);
-        let writers_ahead = u32::from(x.0 - v.n_x.0);
-        let readers_ahead = u32::from(s.0.saturating_sub(v.n_s.0));
         Outcome::Waiting {
-            ahead: writers_ahead + readers_ahead,
+            ahead: self.ahead(v),
+        }
+    }
+
+    /// The number ahead: writers for a reader, writers and readers for a writer.
+    /// Asked only where the turn has not passed: no counter that is taken off is above its half of the ticket.
+    fn ahead(&self, v: Counters) -> u32 {
+        let writers = u32::from(self.ticket.x.0 - v.n_x.0);
+        match self.mode() {
+            Mode::Reader => writers,
+            Mode::Writer => writers + u32::from(self.ticket.s.0 - v.n_s.0),
         }
     }
 
@@ -225,10 +233,10 @@ mod tests {
         assert_eq!((outcome, request.phase()), (Outcome::Granted, Phase::Held));
     }
 
-    fn waits_for_one((outcome, request): (Outcome, Request)) {
+    fn waits_for(ahead: u32, (outcome, request): (Outcome, Request)) {
         assert_eq!(
             (outcome, request.phase()),
-            (Outcome::Waiting { ahead: 1 }, Phase::Waiting)
+            (Outcome::Waiting { ahead }, Phase::Waiting)
         );
     }
 
@@ -256,7 +264,7 @@ mod tests {
     #[test]
     fn p2_last_reader_below_the_ceiling_gets_the_clearing_word() {
         let (outcome, request, after) = ask(READER, Counters::new(29_998, 32_765, 30_000, 32_767));
-        assert_eq!(outcome, Outcome::Waiting { ahead: 4 });
+        assert_eq!(outcome, Outcome::Waiting { ahead: 2 });
         assert_eq!(after, Counters::new(29_998, 32_765, 30_000, 32_768));
         assert_eq!(request.ticket, ticket(30_000, 32_767));
         assert_eq!(
@@ -296,14 +304,14 @@ mod tests {
     #[test]
     fn p6_p7_p8_writer_reads() {
         grants(look(WRITER, Counters::new(3, 4, 6, 6)));
-        waits_for_one(look(WRITER, Counters::new(2, 4, 6, 6)));
+        waits_for(1, look(WRITER, Counters::new(2, 4, 6, 6)));
         passes(look(WRITER, Counters::new(3, 5, 6, 6)));
     }
 
     #[test]
     fn p9_p10_p11_reader_reads() {
         grants(look(READER, Counters::new(3, 9, 5, 9)));
-        waits_for_one(look(READER, Counters::new(2, 9, 4, 9)));
+        waits_for(1, look(READER, Counters::new(2, 9, 4, 9)));
         passes(look(READER, Counters::new(4, 4, 5, 9)));
     }
 
@@ -385,14 +393,38 @@ mod tests {
     }
 
     #[test]
-    fn the_number_ahead_is_wider_than_a_counter() {
-        let mut request = Request::opened(9, WRITER);
+    fn a_writer_waits_for_both_kinds_and_a_reader_for_writers() {
+        for (n_s, readers) in [(0, 4), (1, 3), (3, 1), (4, 0)] {
+            let seen = Counters::new(1, n_s, 6, 9);
+            waits_for(2 + readers, look(WRITER, seen));
+            waits_for(2, look(READER, seen));
+        }
+        // Readers alone are before the writer.
+        waits_for(3, look(WRITER, Counters::new(3, 1, 6, 9)));
+        // More readers have released than were before this one.
+        for n_s in [5, 9, 32_768, 65_535] {
+            waits_for(3, look(READER, Counters::new(0, n_s, 6, 9)));
+        }
+    }
+
+    /// What a waiting request with the highest ticket is told when nothing is released.
+    fn widest(mode: u8) -> Answer {
+        let mut request = Request::opened(9, mode);
         request.ticket = ticket(65_535, 65_535);
         request.phase = Phase::Waiting as u8;
-        assert_eq!(
-            request.step_take(0),
-            Ok(Outcome::Waiting { ahead: 131_070 })
-        );
+        request.step_take(0)
+    }
+
+    #[test]
+    fn the_number_ahead_of_a_writer_is_wider_than_a_counter() {
+        for mode in [WRITER, 2, 7, 255] {
+            assert_eq!(widest(mode), Ok(Outcome::Waiting { ahead: 131_070 }));
+        }
+    }
+
+    #[test]
+    fn the_number_ahead_of_a_reader_fits_in_a_counter() {
+        assert_eq!(widest(READER), Ok(Outcome::Waiting { ahead: 65_535 }));
     }
 
     #[test]

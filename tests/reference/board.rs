@@ -208,7 +208,7 @@ mod tests {
         }
         assert_eq!(board.step(0), Ok(Outcome::Granted));
         assert_eq!(board.step(1), Ok(Outcome::Waiting { ahead: 1 }));
-        assert_eq!(board.step(2), Ok(Outcome::Waiting { ahead: 2 }));
+        assert_eq!(board.step(2), Ok(Outcome::Waiting { ahead: 1 }));
         assert_eq!(board.release(0), Ok(Outcome::Released));
         assert_eq!(board.step(2), Ok(Outcome::Granted));
         assert_eq!(board.release(2), Ok(Outcome::Released));

@@ -53,6 +53,30 @@ pub fn all() -> Vec<Case> {
             "later_reader_does_not_overtake_a_waiting_writer",
             later_reader(),
         ),
+        Case::by_hand(
+            "reader_behind_a_writer_and_two_readers_waits_for_1",
+            reader_behind_a_writer_and_two_readers(),
+        ),
+        Case::by_hand(
+            "reader_behind_two_writers_waits_for_2",
+            reader_behind_two_writers(),
+        ),
+        Case::by_hand(
+            "reader_opened_first_but_stepped_after_a_writer",
+            reader_opened_before_a_writer(),
+        ),
+        Case::by_hand(
+            "number_ahead_of_a_reader_falls_with_writers_only",
+            number_of_a_reader_falls(),
+        ),
+        Case::by_hand(
+            "number_ahead_of_a_writer_falls_with_both_kinds",
+            number_of_a_writer_falls(),
+        ),
+        Case::by_hand(
+            "later_tickets_change_no_number_ahead",
+            later_tickets_change_no_number(),
+        ),
         Case::by_hand("readers_share", readers_share()),
         Case::by_hand("records_are_independent", records_are_independent()),
         Case::by_hand(
@@ -92,7 +116,7 @@ pub fn slow_reader() -> Script {
         open(0, READER).gives(opened(1)),
         step(1).gives(waiting(1, 1)),
         open(0, READER).gives(opened(2)),
-        step(2).gives(waiting(2, 2)),
+        step(2).gives(waiting(2, 1)),
         release(0).gives(released(0)),
         step(2).gives(granted(2)),
         release(2).gives(released(2)),
@@ -131,7 +155,7 @@ fn later_reader() -> Script {
         open(0, WRITER).gives(opened(1)),
         step(1).gives(waiting(1, 1)),
         open(0, READER).gives(opened(2)),
-        step(2).gives(waiting(2, 2)),
+        step(2).gives(waiting(2, 1)),
         release(0).gives(released(0)),
         step(2).gives(waiting(2, 1)),
         step(1).gives(granted(1)),
@@ -140,6 +164,164 @@ fn later_reader() -> Script {
         step(2).gives(granted(2)),
         release(2).gives(released(2)),
         show(0).gives(shown(1, 2, 1, 2)),
+    ])
+}
+
+/// The writer stands first. Each reader waits for it and for no other reader.
+fn reader_behind_a_writer_and_two_readers() -> Script {
+    Script::of([
+        open(0, WRITER).gives(opened(0)),
+        step(0).gives(granted(0)),
+        open(0, READER).gives(opened(1)),
+        step(1).gives(waiting(1, 1)),
+        open(0, READER).gives(opened(2)),
+        step(2).gives(waiting(2, 1)),
+        open(0, READER).gives(opened(3)),
+        step(3).gives(waiting(3, 1)),
+        step(3).gives(waiting(3, 1)),
+        show(0).gives(shown(0, 0, 1, 3)),
+        release(0).gives(released(0)),
+        step(3).gives(granted(3)),
+    ])
+}
+
+/// Both writers count, the one that holds and the one that waits.
+fn reader_behind_two_writers() -> Script {
+    Script::of([
+        open(0, WRITER).gives(opened(0)),
+        step(0).gives(granted(0)),
+        open(0, WRITER).gives(opened(1)),
+        step(1).gives(waiting(1, 1)),
+        open(0, READER).gives(opened(2)),
+        step(2).gives(waiting(2, 2)),
+        step(2).gives(waiting(2, 2)),
+        release(0).gives(released(0)),
+        step(2).gives(waiting(2, 1)),
+        step(1).gives(granted(1)),
+        release(1).gives(released(1)),
+        step(2).gives(granted(2)),
+    ])
+}
+
+/// A ticket is drawn with the first step, so the writer's is before that of the second reader.
+fn reader_opened_before_a_writer() -> Script {
+    Script::of([
+        open(0, READER).gives(opened(0)),
+        open(0, READER).gives(opened(1)),
+        open(0, WRITER).gives(opened(2)),
+        step(0).gives(granted(0)),
+        step(2).gives(waiting(2, 1)),
+        step(1).gives(waiting(1, 1)),
+    ])
+}
+
+/// Tickets: two readers that hold, a writer, a reader, a writer, and the reader that looks again and again.
+fn number_of_a_reader_falls() -> Script {
+    Script::of([
+        open(4, READER).gives(opened(0)),
+        step(0).gives(granted(0)),
+        open(4, READER).gives(opened(1)),
+        step(1).gives(granted(1)),
+        open(4, WRITER).gives(opened(2)),
+        step(2).gives(waiting(2, 2)),
+        open(4, READER).gives(opened(3)),
+        step(3).gives(waiting(3, 1)),
+        open(4, WRITER).gives(opened(4)),
+        step(4).gives(waiting(4, 4)),
+        open(4, READER).gives(opened(5)),
+        step(5).gives(waiting(5, 2)),
+        // The two readers release.
+        release(1).gives(released(1)),
+        step(5).gives(waiting(5, 2)),
+        release(0).gives(released(0)),
+        step(5).gives(waiting(5, 2)),
+        // The first writer is granted and releases.
+        step(2).gives(granted(2)),
+        step(5).gives(waiting(5, 2)),
+        release(2).gives(released(2)),
+        step(5).gives(waiting(5, 1)),
+        // The reader between the writers is granted and releases.
+        step(3).gives(granted(3)),
+        step(5).gives(waiting(5, 1)),
+        release(3).gives(released(3)),
+        step(5).gives(waiting(5, 1)),
+        // The second writer is granted and releases.
+        step(4).gives(granted(4)),
+        step(5).gives(waiting(5, 1)),
+        release(4).gives(released(4)),
+        step(5).gives(granted(5)),
+        show(4).gives(shown(2, 3, 2, 4)),
+    ])
+}
+
+/// Tickets: a writer that holds, two readers, a writer, a reader, and the writer that looks again and again.
+fn number_of_a_writer_falls() -> Script {
+    Script::of([
+        open(6, WRITER).gives(opened(0)),
+        step(0).gives(granted(0)),
+        open(6, READER).gives(opened(1)),
+        step(1).gives(waiting(1, 1)),
+        open(6, READER).gives(opened(2)),
+        step(2).gives(waiting(2, 1)),
+        open(6, WRITER).gives(opened(3)),
+        step(3).gives(waiting(3, 3)),
+        open(6, READER).gives(opened(4)),
+        step(4).gives(waiting(4, 2)),
+        open(6, WRITER).gives(opened(5)),
+        step(5).gives(waiting(5, 5)),
+        // The first writer releases.
+        release(0).gives(released(0)),
+        step(5).gives(waiting(5, 4)),
+        // The two readers are granted and release, the later one first.
+        step(1).gives(granted(1)),
+        step(2).gives(granted(2)),
+        step(5).gives(waiting(5, 4)),
+        release(2).gives(released(2)),
+        step(5).gives(waiting(5, 3)),
+        release(1).gives(released(1)),
+        step(5).gives(waiting(5, 2)),
+        // The second writer is granted and releases.
+        step(3).gives(granted(3)),
+        step(5).gives(waiting(5, 2)),
+        release(3).gives(released(3)),
+        step(5).gives(waiting(5, 1)),
+        // The reader between the writers is granted and releases.
+        step(4).gives(granted(4)),
+        step(5).gives(waiting(5, 1)),
+        release(4).gives(released(4)),
+        step(5).gives(granted(5)),
+        show(6).gives(shown(2, 3, 3, 3)),
+    ])
+}
+
+/// Those who wait look again while further requests are opened and draw their tickets.
+fn later_tickets_change_no_number() -> Script {
+    Script::of([
+        open(0, WRITER).gives(opened(0)),
+        step(0).gives(granted(0)),
+        open(0, READER).gives(opened(1)),
+        step(1).gives(waiting(1, 1)),
+        open(0, WRITER).gives(opened(2)),
+        step(1).gives(waiting(1, 1)),
+        step(2).gives(waiting(2, 2)),
+        step(1).gives(waiting(1, 1)),
+        open(0, READER).gives(opened(3)),
+        step(2).gives(waiting(2, 2)),
+        step(3).gives(waiting(3, 2)),
+        step(1).gives(waiting(1, 1)),
+        step(2).gives(waiting(2, 2)),
+        open(0, WRITER).gives(opened(4)),
+        step(4).gives(waiting(4, 4)),
+        step(1).gives(waiting(1, 1)),
+        step(2).gives(waiting(2, 2)),
+        step(3).gives(waiting(3, 2)),
+        open(0, READER).gives(opened(5)),
+        step(5).gives(waiting(5, 3)),
+        step(1).gives(waiting(1, 1)),
+        step(2).gives(waiting(2, 2)),
+        step(3).gives(waiting(3, 2)),
+        step(4).gives(waiting(4, 4)),
+        show(0).gives(shown(0, 0, 3, 3)),
     ])
 }
 
@@ -214,12 +396,13 @@ fn one_open_too_many() -> Script {
     Script::of(lines)
 }
 
-/// Every request is told how many tickets stand before it; then all are served in order.
+/// Each fourth is a writer. It waits for all before it, a reader for the writers among them; then all are served in order.
 fn all_slots_on_one_record() -> Script {
     let mut lines = open_all_slots(|slot| u8::from(slot % 4 == 0), |_| 3);
     lines.push(step(0).gives(granted(0)));
     for slot in 1..=255 {
-        lines.push(step(slot).gives(waiting(slot, u64::from(slot))));
+        let ahead = if slot % 4 == 0 { slot } else { slot / 4 + 1 };
+        lines.push(step(slot).gives(waiting(slot, u64::from(ahead))));
     }
     lines.push(show(3).gives(shown(0, 0, 64, 192)));
     for slot in 0..=255 {

@@ -44,6 +44,9 @@ steps =
     row (kept 7 0 1 0 0 0) (verb 1 1 0) 65536 (told 0 3 1) (kept 7 0 2 1 0 0) ∷
     row (kept 7 0 2 1 0 0) (verb 2 0 0) 65537 (told 0 3 1) (kept 7 0 2 1 0 0) ∷
     row (kept 7 0 2 1 0 0) (verb 2 0 0) 281474976776193 (told 0 2 0) (kept 7 0 3 1 0 0) ∷
+    -- behind a writer and two readers a reader waits for one, a writer for three
+    row (kept 7 0 1 0 0 0) (verb 1 1 0) 65538 (told 0 3 1) (kept 7 0 2 1 2 0) ∷
+    row (kept 7 1 1 0 0 0) (verb 1 65536 0) 65538 (told 0 3 3) (kept 7 1 2 1 2 0) ∷
     -- at the ceiling it is turned away, and takes its 1 back
     row (kept 7 0 1 0 0 0) (verb 1 1 0) 32768 (told 0 4 0) (kept 7 0 4 0 0 0) ∷
     row (kept 7 0 4 0 0 0) (verb 1 (2 ^ 64 - 1) 0) 32769 (told 0 5 0) free ∷

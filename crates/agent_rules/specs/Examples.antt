@@ -94,7 +94,7 @@ abbrev pub examples : List Example
 examples =
     example 1 (asks writer) (step (word 1 1 1 4) (word 1 1 2 4) Waiting (ticket 1 4) none waiting 3 ∷ []) ∷
     example 2 (asks reader)
-    (step (word 29998 32765 30000 32767) (word 29998 32765 30000 32768) Waiting (ticket 30000 32767) (word 30000 32768 30000 32768) waiting 4 ∷ []) ∷
+    (step (word 29998 32765 30000 32767) (word 29998 32765 30000 32768) Waiting (ticket 30000 32767) (word 30000 32768 30000 32768) waiting 2 ∷ []) ∷
     example 3 (asks reader)
     (step (word 5 5 5 32768) (word 5 5 5 32769) Owing (ticket 0 0) none full 0 ∷
     step (word 5 5 5 32769) (word 5 5 5 32768) Free (ticket 0 0) none withdrawn 0 ∷

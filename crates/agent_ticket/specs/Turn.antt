@@ -15,10 +15,11 @@ abbrev pub isWriter : Mode → Bool
 isWriter Reader = false
 isWriter Writer = true
 
--- Rule 3.7: The number ahead of a ticket (x, s), at counters v: (x - v.nX) plus (s - v.nS), the second term 0 where it would be negative.
--- It is the same for readers and writers.
+-- Rule 3.7: The number ahead of a ticket (x, s), at counters v: x - v.nX for a reader, (x - v.nX) + (s - v.nS) for a writer. Who is not told
+-- passed has neither difference below 0.
 abbrev pub aheadOf : Mode → Ticket → Counters → ℕ
-aheadOf m t v = beyondX (t .0) (v .nx) + beyondS (t .1) (v .ns)
+aheadOf Reader t v = beyondX (t .0) (v .nx)
+aheadOf Writer t v = beyondX (t .0) (v .nx) + beyondS (t .1) (v .ns)
 
 -- Rule 3.6: passed, if v.nX > x, or a writer and v.nS > s;
 abbrev pub passedAt : Mode → Ticket → Counters → Bool

@@ -46,7 +46,10 @@ fn granted(mode: Mode, ticket: Ticket, v: Counters) -> bool
 fn ahead(mode: Mode, ticket: Ticket, v: Counters) -> u64
     ensures { λ r. ⌜ r ≡ aheadOf mode ticket v ⌝ }
 {
-    ticket.0.beyond(v.nx) + ticket.1.beyond(v.ns)
+    if is_writer(mode) {
+        return ticket.0.beyond(v.nx) + ticket.1.beyond(v.ns);
+    }
+    ticket.0.beyond(v.nx)
 }
 
 // passed, granted, or waiting with the number ahead.

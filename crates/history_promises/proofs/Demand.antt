@@ -24,16 +24,16 @@ use Rattle.board_rules.specs.Records.{RECORDS, isRecord}
 use Rattle.board_rules.specs.declared.Answer.{Answer}
 use Rattle.board_rules.specs.declared.Answer.the-variants.{Refused, Begun, Opened, Told, Shown}
 use Rattle.board_rules.specs.Board.{State, Done, opened, stepped, released, shown, shownOf, played}
-use Rattle.history_promises.specs.Tickets.{Given, conflicts, ticketAt, sameKind, EarlierReleased, AllReleased}
-use Rattle.history_promises.specs.Ledger.{Stage, Ledger, mine, isOwing, owesOn}
+use Rattle.history_promises.specs.Tickets.{Given, conflicts, ticketAt, sameKind, EarlierReleased, unreleasedBefore, AllReleased}
+use Rattle.history_promises.specs.Ledger.{Stage, Seat, Ledger, seated, ticketsNow, mine, waitsFor, isOwing, owesOn, drawn, staged, grantedOrWaits}
 use Rattle.history_promises.specs.Ledger.Stage.{Nobody, Asks, Waits, Holds, Owes, Clears}
-use Rattle.history_promises.specs.Promises.{OpenTells, OpensWhereNobodySits, WriterHoldsAlone, DrawnIsGrantedExactly, WaitingIsGrantedExactly, NonePassed, FullExactly, NoneOwed, ClearedOnly, ClearedThen, CountersStaySmall, Demand, Demand3}
+use Rattle.history_promises.specs.Promises.{OpenTells, OpensWhereNobodySits, WriterHoldsAlone, DrawnIsGrantedExactly, WaitingIsGrantedExactly, NonePassed, FullExactly, NoneOwed, ClearedOnly, ClearedThen, CountersStaySmall, StepTells, ToldHowMany, Demand, Demand3}
 use Rattle.history_promises.proofs.Counts.{clash, true-or-false, below-none, none-below}
 use Rattle.history_promises.proofs.Turns.{aheadNow, ahead-earlier, earlier-ahead}
 use Rattle.history_promises.proofs.Words.{topped, topped-or, or-topped, clearingFor, wordAtRest, at-rest, rests, word-counted, counters-small}
 use Rattle.history_promises.proofs.Tied.{Facts, Tied, few-owed}
 use Rattle.history_promises.proofs.Sent.{went, step-nobody, step-holds, step-owes, step-clears, step-waits, step-asks-full, step-asks-turn, release-nobody, release-asks, release-waits, release-owes, release-clears, release-holds}
-use Rattle.history_promises.proofs.Moves.{wordNow, clearing-last, owes-here}
+use Rattle.history_promises.proofs.Moves.{put-same, wordNow, clearing-last, owes-here}
 use Rattle.history_promises.proofs.Kept.{nobody-there, somebody-there, keeps-at, tied}
 use Rattle.history_promises.proofs.Seats.{in-board, lent-to, facts-of, seat-has-its-ticket, ticket-has-its-seat, told-by-stage, due-exactly}
 
@@ -329,6 +329,57 @@ module _ {n : ℕ} {s : State} {L : Ledger} (T : Tied n s L) where
       P : Done → Type 0
       P d = OpenTells n L r m (d .answer)
 
+  -- who is told to wait is told how many tickets it waits for
+  told-number : (x : Bool) (d e : Done) (a m : ℕ) → d .answer ≡ Told tells.Granted → e .answer ≡ Told (tells.Waiting a) → (if x then d else e) .answer ≡ Told (tells.Waiting m) → m ≡ a
+  told-number true d e a m p q h = absurd (no-waiting m (sym h ∙ p))
+  told-number false d e a m p q h = same-number (sym h ∙ q)
+    where
+      same-number : Told (tells.Waiting m) ≡ Told (tells.Waiting a) → m ≡ a
+      same-number z = cc
+
+  -- what a slot waits for, by the seat that it has been given
+  seat-waits : (M : Ledger) (i : ℕ) (t : Seat) → waitsFor (seated M i t) i ≡ unreleasedBefore (M .tickets (t .about)) (t .kind) (t .place)
+  seat-waits M i t = ap (λ (u : Seat). unreleasedBefore (M .tickets (u .about)) (u .kind) (u .place)) (put-same (M .seats) i t)
+
+  told-how-many : ToldHowMany L (λ c. played c s .answer)
+  told-how-many i m told = by (L .seats i .stage) refl
+    where
+      P : Stage → Type 0
+      P g = m ≡ waitsFor (grantedOrWaits g i Waits L) i
+
+      other : (g : Stage) → L .seats i .stage ≡ g → StepTells g (Told (tells.Waiting m))
+      other g e = subst (StepTells g) told (subst (λ (h : Stage). StepTells h (stepped i s .answer)) e (told-by-stage T i .0))
+
+      by : (g : Stage) → L .seats i .stage ≡ g → P (L .seats i .stage)
+      by Asks e =
+          let here = in-board T i Asks e refl in
+          let lent = lent-to T i Asks e refl in
+          let a = T .agrees (L .seats i .about) lent in
+          let eq : topped (mine L i) ≡ false → _ = λ low. ap (λ (d : Done). d .answer) (step-asks-turn s i here (L .seats i) (mine L i) (omega (arith, T .words-long)) (omega (arith, T .most)) a low (keeps-at T i here Asks e)) in
+          subst P (sym e)
+          (⊎-elim
+          (λ top. let z : _≡_ {A = ℕ} 0 1 = full-waits (sym (asks-full i e top) ∙ told) in absurd (omega arith))
+          (λ low. told-number (eqb (aheadNow (L .seats i .kind) (longer i) (length (mine L i))) 0) _ _ _ m refl refl (sym (eq low) ∙ told) ∙ sym (drawn-waits))
+          (true-or-false (topped (mine L i))))
+        where
+          full-waits : Told tells.Full ≡ Told (tells.Waiting m) → _≡_ {A = ℕ} 0 1
+          full-waits z = cc
+
+          drawn-waits : waitsFor (drawn i Waits L) i ≡ aheadNow (L .seats i .kind) (longer i) (length (mine L i))
+          drawn-waits =
+              seat-waits (ticketsNow L (L .seats i .about) (longer i)) i _ ∙
+              ap (λ (l : List Given). unreleasedBefore l (L .seats i .kind) (length (mine L i))) (put-same (L .tickets) (L .seats i .about) (longer i))
+      by Waits e =
+          let here = in-board T i Waits e refl in
+          let lent = lent-to T i Waits e refl in
+          let eq = ap (λ (d : Done). d .answer) (step-waits s i here (L .seats i) (mine L i) (omega (arith, T .words-long)) (omega (arith, T .most)) (T .agrees (L .seats i .about) lent) (keeps-at T i here Waits e) (facts-of T i Waits e refl)) in
+          subst P (sym e)
+          (told-number (eqb (aheadNow (L .seats i .kind) (mine L i) (L .seats i .place)) 0) _ _ _ m refl refl (sym eq ∙ told) ∙ sym (seat-waits L i (staged Waits (L .seats i))))
+      by Nobody e = ⊎-elim (λ q. let z : _≡_ {A = ℕ} 0 1 = cc in absurd (omega arith)) (λ q. let z : _≡_ {A = ℕ} 0 1 = cc in absurd (omega arith)) (other Nobody e)
+      by Holds e = let q = other Holds e in let z : _≡_ {A = ℕ} 0 1 = cc in absurd (omega arith)
+      by Owes e = let q = other Owes e in let z : _≡_ {A = ℕ} 0 1 = cc in absurd (omega arith)
+      by Clears e = ⊎-elim (λ q. let z : _≡_ {A = ℕ} 0 1 = cc in absurd (omega arith)) (λ q. let z : _≡_ {A = ℕ} 0 1 = cc in absurd (omega arith)) (other Clears e)
+
   pub demand : Demand n L s (λ c. played c s .answer)
   demand =
       record {
@@ -347,6 +398,7 @@ module _ {n : ℕ} {s : State} {L : Ledger} (T : Tied n s L) where
         cleared-only = cleared-only;
         cleared-then = cleared-then;
         small = small;
+        told-how-many = told-how-many;
       }
 
 pub demand-3 : Demand3

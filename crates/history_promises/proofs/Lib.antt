@@ -1,3 +1,4 @@
+pub mod Stories
 pub mod Counts
 pub mod Order
 pub mod Turns
@@ -9,5 +10,4 @@ pub mod Moves
 pub mod Kept
 pub mod Seats
 pub mod Demand
-pub mod Stories
 pub mod Empty

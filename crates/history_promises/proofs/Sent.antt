@@ -12,7 +12,8 @@ use lib.Seq.{take-append-seam, getD-append-seam}
 use Rattle.common.specs.Choice.{if_then_else_}
 use Rattle.word_layout.specs.Word.{stepOf, backOf, splitOf, addOf, swapOf}
 use Rattle.word_layout.specs.declared.Counters.{Counters}
-use Rattle.agent_ticket.specs.Turn.{turnOf, aheadOf}
+use Rattle.agent_ticket.specs.Turn.{turnOf}
+use Rattle.agent_ticket.specs.Promises.{behind}
 use Rattle.agent_ceiling.specs.Ceiling.{fullAt, clearingWordOf}
 use Rattle.agent_ticket.specs.declared.Mode.{Mode}
 use Rattle.agent_ticket.specs.declared.Mode.the-variants.{Reader, Writer}
@@ -32,7 +33,7 @@ use Rattle.history_promises.specs.Tickets.{Given, pastTheLast, givenOf}
 use Rattle.history_promises.specs.Ledger.{Stage, Seat}
 use Rattle.history_promises.specs.Ledger.Stage.{Asks, Waits, Holds, Owes, Clears}
 use Rattle.history_promises.proofs.Order.{append-ordered}
-use Rattle.history_promises.proofs.Turns.{ticketOf, drawnAt, turnAt, aheadNow, turn-law}
+use Rattle.history_promises.proofs.Turns.{ticketOf, drawnAt, aheadNow, turn-law}
 use Rattle.history_promises.proofs.Words.{Agrees, topped, clearingFor, wordAtRest, full-topped, clearing-drawn, released-more}
 use Rattle.history_promises.proofs.Tied.{modeNumber, withTicket, requestFor, Owns}
 
@@ -177,35 +178,32 @@ module _ (s : State) (i : ℕ) (here : i < SLOTS) where
     module _ {o : Mode → ℕ} (a : Agrees l o (getD (s .words) (t .about) 0)) where
       -- what a request comes to by the turn test
       turned-at :
-          (q : Request) (k : Mode) (p n v : ℕ) → turnOf k (q .ticket) (splitOf (getD (s .words) (t .about) 0)) ≡ turnAt n p →
+          (q : Request) (k : Mode) (n v : ℕ) → turnOf k (q .ticket) (splitOf (getD (s .words) (t .about) 0)) ≡ behind n →
           went s i (t .about) (turned (turnOf k (q .ticket) (splitOf (getD (s .words) (t .about) 0))) q .request) v (turned (turnOf k (q .ticket) (splitOf (getD (s .words) (t .about) 0))) q .answer) ≡
-          (if eqb n 0 then went s i (t .about) (inPhase Held q) v tells.Granted else went s i (t .about) (inPhase Waiting q) v (tells.Waiting p))
-      turned-at q k p n v e = rw e (by (eqb n 0) refl)
+          (if eqb n 0 then went s i (t .about) (inPhase Held q) v tells.Granted else went s i (t .about) (inPhase Waiting q) v (tells.Waiting n))
+      turned-at q k n v e = rw e (by (eqb n 0) refl)
         where
           by :
               (x : Bool) → eqb n 0 ≡ x →
-              went s i (t .about) (turned (turnAt n p) q .request) v (turned (turnAt n p) q .answer) ≡
-              (if eqb n 0 then went s i (t .about) (inPhase Held q) v tells.Granted else went s i (t .about) (inPhase Waiting q) v (tells.Waiting p))
+              went s i (t .about) (turned (behind n) q .request) v (turned (behind n) q .answer) ≡
+              (if eqb n 0 then went s i (t .about) (inPhase Held q) v tells.Granted else went s i (t .about) (inPhase Waiting q) v (tells.Waiting n))
           by true z = rw z refl
           by false z = rw z refl
 
       -- a slot that waits
-      abbrev waitingAhead : ℕ
-      waitingAhead = aheadOf (t .kind) (ticketOf l (t .place)) (splitOf (getD (s .words) (t .about) 0))
-
       pub step-waits :
           slotAt s i ≡ requestFor Waits t l → Owns t l i →
           stepped i s ≡
           (if eqb (aheadNow (t .kind) l (t .place)) 0
           then went s i (t .about) (withTicket Held t l) (getD (s .words) (t .about) 0) tells.Granted
-          else went s i (t .about) (withTicket Waiting t l) (getD (s .words) (t .about) 0) (tells.Waiting waitingAhead))
+          else went s i (t .about) (withTicket Waiting t l) (getD (s .words) (t .about) 0) (tells.Waiting (aheadNow (t .kind) l (t .place))))
       unfolding stepSends stepTakes
       step-waits e own =
           step-of (requestFor Waits t l) e ∙
           sent-accepted (requestFor Waits t l) (stepSends (requestFor Waits t l)) (stepTakes (requestFor Waits t l)) refl refl lent small ∙
-          rw (mode-number (t .kind)) (turned-at (withTicket Waiting t l) (t .kind) waitingAhead (aheadNow (t .kind) l (t .place)) (getD (s .words) (t .about) 0) law)
+          rw (mode-number (t .kind)) (turned-at (withTicket Waiting t l) (t .kind) (aheadNow (t .kind) l (t .place)) (getD (s .words) (t .about) 0) law)
         where
-          law : turnOf (t .kind) (ticketOf l (t .place)) (splitOf (getD (s .words) (t .about) 0)) ≡ turnAt (aheadNow (t .kind) l (t .place)) waitingAhead
+          law : turnOf (t .kind) (ticketOf l (t .place)) (splitOf (getD (s .words) (t .about) 0)) ≡ behind (aheadNow (t .kind) l (t .place))
           law = turn-law (t .kind) l (t .place) (splitOf (getD (s .words) (t .about) 0)) (a .order) (own .inside) (own .open-now) (own .kind) (ap (λ (c : Counters). c .nx .0) (a .word)) (ap (λ (c : Counters). c .ns .0) (a .word))
 
       -- a slot that asks
@@ -251,10 +249,7 @@ module _ (s : State) (i : ℕ) (here : i < SLOTS) where
             same-parts (t .about) (modeNumber (t .kind)) (phaseNumber Asking) (x ∙ ap (givenOf Writer) (sym seam)) (y ∙ ap (givenOf Reader) (sym seam))
             (ap (λ (k : Mode). clearingWordOf k (splitOf (getD (s .words) (t .about) 0))) (mode-number (t .kind)) ∙ z)
 
-        abbrev pub askingAhead : ℕ
-        askingAhead = aheadOf (t .kind) (ticketOf longer (length l)) (splitOf (getD (s .words) (t .about) 0))
-
-        law : turnOf (t .kind) (ticketOf longer (length l)) (splitOf (getD (s .words) (t .about) 0)) ≡ turnAt (aheadNow (t .kind) longer (length l)) askingAhead
+        law : turnOf (t .kind) (ticketOf longer (length l)) (splitOf (getD (s .words) (t .about) 0)) ≡ behind (aheadNow (t .kind) longer (length l))
         law =
             let mine = getD-append-seam l fresh-ticket [] pastTheLast in
             turn-law (t .kind) longer (length l) (splitOf (getD (s .words) (t .about) 0)) (append-ordered l fresh-ticket refl (a .order))
@@ -267,10 +262,10 @@ module _ (s : State) (i : ℕ) (here : i < SLOTS) where
             stepped i s ≡
             (if eqb (aheadNow (t .kind) longer (length l)) 0
             then went s i (t .about) (withTicket Held (at-last Holds) longer) (addOf (getD (s .words) (t .about) 0) (stepOf (ticketCounter (t .kind)))) tells.Granted
-            else went s i (t .about) (withTicket Waiting (at-last Waits) longer) (addOf (getD (s .words) (t .about) 0) (stepOf (ticketCounter (t .kind)))) (tells.Waiting askingAhead))
+            else went s i (t .about) (withTicket Waiting (at-last Waits) longer) (addOf (getD (s .words) (t .about) 0) (stepOf (ticketCounter (t .kind)))) (tells.Waiting (aheadNow (t .kind) longer (length l))))
         step-asks-turn e =
             let w = getD (s .words) (t .about) 0 in
             asks-sent e ∙
             ap (λ (x : Taken). went s i (t .about) (x .request) (addOf w (stepOf (ticketCounter (t .kind)))) (x .answer))
             (asked-turn (requestFor Asks t l) (splitOf w) (full-topped a ∙ low) ∙ ap (λ (q : Request). waited q (splitOf w)) ticketed-last) ∙
-            rw (mode-number (t .kind)) (turned-at (withTicket Asking (at-last Asks) longer) (t .kind) askingAhead (aheadNow (t .kind) longer (length l)) (addOf w (stepOf (ticketCounter (t .kind)))) law)
+            rw (mode-number (t .kind)) (turned-at (withTicket Asking (at-last Asks) longer) (t .kind) (aheadNow (t .kind) longer (length l)) (addOf w (stepOf (ticketCounter (t .kind)))) law)

@@ -1,4 +1,4 @@
--- The three histories, computed.
+-- The four histories, computed.
 -- Assumes nothing.
 use mathlib.Core.Path.{refl}
 use Rattle.agent_ticket.specs.Turn.{turnOf}
@@ -8,7 +8,8 @@ use Rattle.board_slots.specs.Slots.{lowestFree}
 use Rattle.board_rules.specs.Records.{refusalOf}
 use Rattle.board_rules.specs.Board.{opened, sent, stepped, released}
 use Rattle.history_promises.specs.History.{events, readOff}
-use Rattle.history_promises.specs.Stories.{SlowReaderIsGranted, SlowReaderInTheLedger, WriterWaitsForReaders, ReaderStaysBehindWriter}
+use Rattle.history_promises.specs.Tickets.{counted}
+use Rattle.history_promises.specs.Stories.{SlowReaderIsGranted, SlowReaderInTheLedger, WriterWaitsForReaders, ReaderStaysBehindWriter, EachIsToldHowMany, EachWaitsFor, NumbersFallWithReleases}
 
 pub slow-reader-is-granted : SlowReaderIsGranted
 unfolding events opened sent stepped released refusalOf lowestFree stepSends releaseSends stepTakes releaseTakes turnOf clearingWordOf asked
@@ -25,3 +26,15 @@ writer-waits-for-readers = refl
 pub reader-stays-behind-writer : ReaderStaysBehindWriter
 unfolding events opened sent stepped released refusalOf lowestFree stepSends releaseSends stepTakes releaseTakes turnOf clearingWordOf asked
 reader-stays-behind-writer = refl
+
+pub each-is-told-how-many : EachIsToldHowMany
+unfolding events opened sent stepped released refusalOf lowestFree stepSends releaseSends stepTakes releaseTakes turnOf clearingWordOf asked
+each-is-told-how-many = refl
+
+pub each-waits-for : EachWaitsFor
+unfolding events readOff counted opened sent stepped released refusalOf lowestFree stepSends releaseSends stepTakes releaseTakes turnOf clearingWordOf asked
+each-waits-for = refl
+
+pub numbers-fall-with-releases : NumbersFallWithReleases
+unfolding events opened sent stepped released refusalOf lowestFree stepSends releaseSends stepTakes releaseTakes turnOf clearingWordOf asked
+numbers-fall-with-releases = refl

@@ -1,80 +1,74 @@
--- The turn test on a record in order: never passed, and granted exactly when every earlier conflicting ticket has been released.
+-- The turn test on a record in order: never passed, and behind as many tickets as are earlier, conflict and have not been released.
 -- Assumes nothing.
-use Prim.Native.Nat.{ℕ, zero, suc, _+_, _<_, _≤_}
-use mathlib.Core.Path.{_≡_, refl, ap, sym}
-use mathlib.Core.Bool.{Bool, true, false}
+use Prim.Native.Nat.{ℕ, _+_, _<_, _≤_}
+use mathlib.Core.Path.{_≡_, refl, ap, sym, _∙_}
+use mathlib.Core.Bool.{Bool, true, false, not, _&&_}
 use mathlib.Core.Logic.{_⊎_, inl, inr, ⊎-elim}
-use mathlib.Core.List.{List}
+use mathlib.Core.List.{List, [], _∷_}
 use native.Mathlib.Omega.{arith}
-use borrow.Author.Tests.{le-ltb, ltb-true, ltb-false, eq-eqb, ne-eqb}
-use lib.Dec.{eqb, ltb}
+use borrow.Author.Tests.{ltb-true, ltb-false}
+use lib.Dec.{ltb}
 use lib.ListN.{length, take, List·getD-eq-default}
 use lib.Seq.{take-length}
-use Rattle.common.specs.Choice.{if_then_else_}
 use Rattle.word_layout.specs.declared.Counters.{Counters}
-use Rattle.agent_ticket.specs.Turn.{turnOf, aheadOf}
+use Rattle.agent_ticket.specs.Turn.{turnOf}
+use Rattle.agent_ticket.specs.Promises.{behind}
 use Rattle.agent_ticket.specs.declared.Ticket.{Ticket}
 use Rattle.agent_ticket.specs.declared.Mode.{Mode}
 use Rattle.agent_ticket.specs.declared.Mode.the-variants.{Reader, Writer}
-use Rattle.agent_ticket.specs.declared.Turn.{Turn}
-use Rattle.agent_ticket.specs.declared.Turn.the-variants as turn
-use Rattle.history_promises.specs.Tickets.{Given, conflicts, pastTheLast, ticketAt, sameKind, givenOf, releasedOf, EarlierReleased, AllReleased}
-use Rattle.history_promises.proofs.Counts.{clash, none-each, each-none}
-use Rattle.history_promises.proofs.Order.{isOpen, openOf, Ordered, before-open, same-eq}
+use Rattle.agent_ticket.proofs.Behind.{reader-waits-for-writers, writer-waits-for-both}
+use Rattle.history_promises.specs.Tickets.{Given, conflicts, pastTheLast, ticketAt, sameKind, counted, givenOf, releasedOf, EarlierReleased, standsInTheWay, unreleasedBefore, AllReleased}
+use Rattle.history_promises.specs.Ledger.{one}
+use Rattle.history_promises.proofs.Counts.{clash, counted-cons, counted-nil, none-each, each-none}
+use Rattle.history_promises.proofs.Order.{isOpen, openOf, Ordered, before-open}
 
 abbrev pub drawnAt : ℕ → ℕ → Ticket
 drawnAt x s = record { 0 = record { 0 = x }; 1 = record { 0 = s } }
 
--- how many are still ahead, of a writers and b readers
-abbrev pub still : Mode → ℕ → ℕ → ℕ
-still Reader a b = a
-still Writer a b = a + b
-
-abbrev pub turnAt : ℕ → ℕ → Turn
-turnAt a n = if eqb a 0 then turn.Granted else turn.Ahead n
-
-reader-turn : (x s a : ℕ) (v : Counters) → x ≡ v .nx .0 + a → turnOf Reader (drawnAt x s) v ≡ turnAt a (aheadOf Reader (drawnAt x s) v)
-unfolding turnOf
-reader-turn x s zero v e = rw (le-ltb x (v .nx .0) (omega arith), eq-eqb (v .nx .0) x (omega arith)) refl
-reader-turn x s (suc a) v e = rw (le-ltb x (v .nx .0) (omega arith), ne-eqb (v .nx .0) x (λ q. absurd (omega arith)), ne-eqb (suc a) 0 (λ q. absurd (omega arith))) refl
-
-writer-turn : (x s a b : ℕ) (v : Counters) → x ≡ v .nx .0 + a → s ≡ v .ns .0 + b → turnOf Writer (drawnAt x s) v ≡ turnAt (a + b) (aheadOf Writer (drawnAt x s) v)
-unfolding turnOf
-writer-turn x s zero zero v e f = rw (le-ltb x (v .nx .0) (omega arith), le-ltb s (v .ns .0) (omega arith), eq-eqb (v .nx .0) x (omega arith), eq-eqb (v .ns .0) s (omega arith)) refl
-writer-turn x s zero (suc b) v e f =
-    rw (le-ltb x (v .nx .0) (omega arith), le-ltb s (v .ns .0) (omega arith), eq-eqb (v .nx .0) x (omega arith), ne-eqb (v .ns .0) s (λ q. absurd (omega arith)), ne-eqb (zero + suc b) 0 (λ q. absurd (omega arith))) refl
-writer-turn x s (suc a) b v e f =
-    rw (le-ltb x (v .nx .0) (omega arith), le-ltb s (v .ns .0) (omega arith), ne-eqb (v .nx .0) x (λ q. absurd (omega arith)), ne-eqb (suc a + b) 0 (λ q. absurd (omega arith))) refl
-
--- the open tickets before a place
-abbrev pub aheadNow : Mode → List Given → ℕ → ℕ
-aheadNow k l p = still k (openOf Writer (take p l)) (openOf Reader (take p l))
-
 abbrev pub ticketOf : List Given → ℕ → Ticket
 ticketOf l p = drawnAt (givenOf Writer (take p l)) (givenOf Reader (take p l))
+
+abbrev pub aheadNow : Mode → List Given → ℕ → ℕ
+aheadNow k l p = unreleasedBefore l k p
+
+-- what stands in the way of a kind: writers' tickets, and for a writer readers' too
+abbrev both : Mode → ℕ → ℕ → ℕ
+both Reader a b = a
+both Writer a b = a + b
+
+one-both : (k : Mode) (t : Given) → one (standsInTheWay k t) ≡ both k (one (isOpen Writer t)) (one (isOpen Reader t))
+one-both k t = by k (t .kind) (t .released)
+  where
+    by : (k j : Mode) (x : Bool) → one (conflicts j k && not x) ≡ both k (one (sameKind Writer j && not x)) (one (sameKind Reader j && not x))
+    by Reader Reader x = refl
+    by Reader Writer x = refl
+    by Writer Reader true = refl
+    by Writer Reader false = refl
+    by Writer Writer true = refl
+    by Writer Writer false = refl
+
+in-the-way : (k : Mode) (l : List Given) → counted (standsInTheWay k) l ≡ both k (openOf Writer l) (openOf Reader l)
+in-the-way Reader [] = counted-nil (standsInTheWay Reader) ∙ sym (counted-nil (isOpen Writer))
+in-the-way Writer [] = omega (arith, counted-nil (standsInTheWay Writer), counted-nil (isOpen Writer), counted-nil (isOpen Reader))
+in-the-way Reader (t ∷ l) =
+    let i = in-the-way Reader l in
+    omega (arith, one-both Reader t, counted-cons (standsInTheWay Reader) t l, counted-cons (isOpen Writer) t l)
+in-the-way Writer (t ∷ l) =
+    let i = in-the-way Writer l in
+    omega (arith, one-both Writer t, counted-cons (standsInTheWay Writer) t l, counted-cons (isOpen Writer) t l, counted-cons (isOpen Reader) t l)
 
 pub turn-law :
     (k : Mode) (l : List Given) (p : ℕ) (v : Counters) → Ordered l → p < length l → ticketAt l p .released ≡ false → ticketAt l p .kind ≡ k →
     v .nx .0 ≡ releasedOf Writer l → v .ns .0 ≡ releasedOf Reader l →
-    turnOf k (ticketOf l p) v ≡ turnAt (aheadNow k l p) (aheadOf k (ticketOf l p) v)
+    turnOf k (ticketOf l p) v ≡ behind (aheadNow k l p)
 turn-law Reader l p v o h e m a b =
     let w = before-open l o p h e Writer (rw m refl) in
-    reader-turn (givenOf Writer (take p l)) (givenOf Reader (take p l)) (openOf Writer (take p l)) v (omega arith)
+    reader-waits-for-writers (aheadNow Reader l p) (ticketOf l p) v (omega (arith, in-the-way Reader (take p l)))
 turn-law Writer l p v o h e m a b =
     let w = before-open l o p h e Writer (rw m refl) in
     let r = before-open l o p h e Reader (rw m refl) in
-    writer-turn (givenOf Writer (take p l)) (givenOf Reader (take p l)) (openOf Writer (take p l)) (openOf Reader (take p l)) v (omega arith) (omega arith)
-
--- none ahead, for each kind that conflicts
-none-ahead : (k : Mode) (l : List Given) (p : ℕ) → aheadNow k l p ≡ 0 → (j : Mode) → conflicts j k ≡ true → openOf j (take p l) ≡ 0
-none-ahead Reader l p z Reader c = clash false c refl
-none-ahead Reader l p z Writer c = z
-none-ahead Writer l p z Reader c = omega arith
-none-ahead Writer l p z Writer c = omega arith
-
-ahead-none : (k : Mode) (l : List Given) (p : ℕ) → ((j : Mode) → conflicts j k ≡ true → openOf j (take p l) ≡ 0) → aheadNow k l p ≡ 0
-ahead-none Reader l p h = h Writer refl
-ahead-none Writer l p h = let a = h Writer refl in let b = h Reader refl in omega arith
+    writer-waits-for-both (openOf Writer (take p l)) (openOf Reader (take p l)) (ticketOf l p) v (omega arith) (omega arith) ∙
+    ap behind (sym (in-the-way Writer (take p l)))
 
 same-self : (k : Mode) → sameKind k k ≡ true
 same-self Reader = refl
@@ -95,12 +89,22 @@ not-open j t h = by (sameKind j (t .kind)) refl
     by true q = rw (q, h q) refl
     by false q = rw q refl
 
+-- none stands in the way exactly when every earlier conflicting one is released
 pub ahead-earlier : (k : Mode) (l : List Given) (p : ℕ) → p ≤ length l → aheadNow k l p ≡ 0 → EarlierReleased l k p
-ahead-earlier k l p h z j m c = shut (ticketAt l j) (none-each (isOpen (ticketAt l j .kind)) l p pastTheLast (none-ahead k l p z (ticketAt l j .kind) c) j m (omega arith))
+ahead-earlier k l p h z j m c = by (conflicts (ticketAt l j .kind) k) (ticketAt l j .released) c (none-each (standsInTheWay k) l p pastTheLast z j m (omega arith))
+  where
+    by : (x y : Bool) → x ≡ true → (x && not y) ≡ false → y ≡ true
+    by x true c e = refl
+    by true false c e = clash true refl e
+    by false false c e = clash false c refl
 
 pub earlier-ahead : (k : Mode) (l : List Given) (p : ℕ) → EarlierReleased l k p → aheadNow k l p ≡ 0
-earlier-ahead k l p r =
-    ahead-none k l p (λ j c. each-none (isOpen j) l p pastTheLast (λ i m n. not-open j (ticketAt l i) (λ s. r i m (rw (sym (same-eq j (ticketAt l i .kind) s)) c))))
+earlier-ahead k l p r = each-none (standsInTheWay k) l p pastTheLast (λ j m n. by (conflicts (ticketAt l j .kind) k) (ticketAt l j .released) (r j m))
+  where
+    by : (x y : Bool) → (x ≡ true → y ≡ true) → (x && not y) ≡ false
+    by true true h = refl
+    by true false h = clash false (h refl) refl
+    by false y h = refl
 
 -- no ticket unreleased
 pub all-released-none : (l : List Given) → AllReleased l → (k : Mode) → openOf k l ≡ 0

@@ -15,7 +15,7 @@ use Rattle.agent_rules.specs.declared.Answer.{Answer as Tells}
 use Rattle.agent_rules.specs.declared.Answer.the-variants.{WrongPhase, Granted, Waiting, Full, Withdrawn, Released, ClearingDue, Cleared, NotYetClear, Passed}
 use Rattle.board_rules.specs.declared.Answer.{Answer}
 use Rattle.board_rules.specs.declared.Answer.the-variants.{Refused, Begun, Opened, Told, Shown}
-use Rattle.history_promises.specs.Tickets.{Given, ticketAt, sameKind}
+use Rattle.history_promises.specs.Tickets.{Given, ticketAt, sameKind, unreleasedBefore}
 
 -- How far a slot has come: nobody sits there; it asks, waits or holds; a withdrawal is owed; or it clears.
 pub data Stage : Type 0 where
@@ -62,6 +62,10 @@ staged g t = record { stage = g; about = t .about; kind = t .kind; place = t .pl
 -- The tickets of the record that a slot is about.
 abbrev pub mine : Ledger → ℕ → List Given
 mine L i = L .tickets (L .seats i .about)
+
+-- How many tickets a slot that has one waits for: the earlier ones of its record that conflict with its own and have not been released.
+abbrev pub waitsFor : Ledger → ℕ → ℕ
+waitsFor L i = unreleasedBefore (mine L i) (L .seats i .kind) (L .seats i .place)
 
 -- How many numbers below n pass a test: each that does counts one.
 abbrev pub one : Bool → ℕ

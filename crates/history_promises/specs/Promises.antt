@@ -1,4 +1,4 @@
--- Demand 3 of docs/RULES.md, section 11: first that the ledger is read rightly, then D3.1 to D3.7 in order, then all of it as one.
+-- Demand 3 of docs/RULES.md, section 11: first that the ledger is read rightly, then D3.1 to D3.8 in order, then all of it as one.
 -- Statements only: proofs/ has why each holds.
 use Prim.Native.Nat.{ℕ, suc, _+_, _<_, _≤_}
 use mathlib.Core.Path.{_≡_}
@@ -19,7 +19,7 @@ use Rattle.board_rules.specs.declared.Answer.{Answer}
 use Rattle.board_rules.specs.declared.Answer.the-variants.{Refused, Begun, Opened, Told}
 use Rattle.board_rules.specs.Board.{State, stateOf, begun}
 use Rattle.history_promises.specs.Tickets.{Given, ticketAt, givenOf, releasedOf, EarlierReleased, AllReleased}
-use Rattle.history_promises.specs.Ledger.{Ledger, Stage, mine, owed}
+use Rattle.history_promises.specs.Ledger.{Ledger, Stage, mine, waitsFor, owed, notedCall}
 use Rattle.history_promises.specs.Ledger.Stage.{Nobody, Asks, Waits, Holds, Owes, Clears}
 use Rattle.history_promises.specs.History.{Move, fresh, ledgerAfter, boardAfter, answerAfter}
 
@@ -110,7 +110,7 @@ WordsAreCounted n L s =
     (length (s .words) ≡ n) × (length (s .slots) ≡ SLOTS) ×
     ((r : ℕ) → r < n → getD (s .words) r 0 ≡ joinOf (countersOf (L .tickets r) (owed (L .seats) r)))
 
--- Then D3.1 to D3.7.
+-- Then D3.1 to D3.8.
 
 -- Demand D3.1: A record that a writer holds has no other holder: whoever holds it is that writer.
 abbrev pub WriterHoldsAlone : Ledger → Type 0
@@ -175,8 +175,14 @@ ClearedThen L says =
 abbrev pub CountersStaySmall : ℕ → State → Type 0
 CountersStaySmall n s = (r : ℕ) (k : Counter) → r < n → heldBy k (getD (s .words) r 0) ≤ 33023
 
+-- Demand D3.8: Whoever is told to wait, reader or writer, is told the number of tickets that it waits for: the earlier ones of its record
+-- that conflict with its own and are not yet released. They are counted in the ledger with this answer noted: there a slot that asked has
+-- its ticket, drawn by this very step, and one that waited has the ticket that it had.
+abbrev pub ToldHowMany : Ledger → (Call → Answer) → Type 0
+ToldHowMany L says = (i m : ℕ) → says (Step i) ≡ Told (Waiting m) → m ≡ waitsFor (notedCall (Step i) (Told (Waiting m)) L) i
+
 -- All of demand 3, of n words, a ledger, a board, and what it answers next: the fields up to `words-are-counted` say what the ledger is
--- read as, the others are D3.1 to D3.7 of docs/RULES.md in order, and `cleared-then`, beside D3.6, is not asked for.
+-- read as, the others are D3.1 to D3.8 of docs/RULES.md in order, and `cleared-then`, beside D3.6, is not asked for.
 pub record Demand (n : ℕ) (L : Ledger) (s : State) (says : Call → Answer) : Type 0 where
   pub seat-has-its-ticket : SeatHasItsTicket L
   pub ticket-has-its-seat : TicketHasItsSeat n L
@@ -193,6 +199,7 @@ pub record Demand (n : ℕ) (L : Ledger) (s : State) (says : Call → Answer) : 
   pub cleared-only : ClearedOnly L says
   pub cleared-then : ClearedThen L says
   pub small : CountersStaySmall n s
+  pub told-how-many : ToldHowMany L says
 
 -- It holds on a fresh board of n words, and after whatever calls have been made on it.
 abbrev pub Demand3 : Type 0

@@ -1,13 +1,14 @@
--- Three histories on a board of one word, with every answer. Each claim is computed on the definitions.
+-- Four histories on a board of one word, with every answer. Each claim is computed on the definitions.
 use Prim.Native.Nat.{ℕ}
 use mathlib.Core.Path.{_≡_}
 use mathlib.Core.Bool.{true, false}
-use mathlib.Core.List.{List, [], _∷_, map}
+use mathlib.Core.List.{List, [], _∷_, _++_, map}
 use Rattle.agent_ticket.specs.declared.Mode.the-variants.{Reader, Writer}
 use Rattle.board_call.specs.declared.Call.the-variants.{Open, Step, Release}
 use Rattle.agent_rules.specs.declared.Answer.the-variants.{Granted, Waiting, Released}
 use Rattle.board_rules.specs.declared.Answer.{Answer}
 use Rattle.board_rules.specs.declared.Answer.the-variants.{Opened, Told}
+use Rattle.history_promises.specs.Ledger.{waitsFor}
 use Rattle.history_promises.specs.Ledger.Stage.{Holds}
 use Rattle.history_promises.specs.History.{Move, Event, fresh, events, ledgerAfter}
 use Rattle.history_promises.specs.History.Move.{Do}
@@ -41,7 +42,7 @@ SlowReaderIsGranted =
     answers slowReader ≡
     Opened 0 ∷ Told Granted ∷
     Opened 1 ∷ Told (Waiting 1) ∷
-    Opened 2 ∷ Told (Waiting 2) ∷
+    Opened 2 ∷ Told (Waiting 1) ∷
     Told Released ∷ Told Granted ∷ Told Released ∷
     Told Granted ∷ []
 
@@ -80,6 +81,48 @@ ReaderStaysBehindWriter =
     steps 1 ∷ releases 1 ∷ steps 2 ∷ []) ≡
     Opened 0 ∷ Told Granted ∷
     Opened 1 ∷ Told (Waiting 1) ∷
-    Opened 2 ∷ Told (Waiting 2) ∷
+    Opened 2 ∷ Told (Waiting 1) ∷
     Told Released ∷ Told (Waiting 1) ∷
     Told Granted ∷ Told Released ∷ Told Granted ∷ []
+
+-- Readers and writers in turn, none released: a writer (slot 0) holds, three readers wait, then a writer, then a reader.
+abbrev pub sixAsk : List Move
+sixAsk =
+    opensWriter ∷ steps 0 ∷
+    opensReader ∷ steps 1 ∷
+    opensReader ∷ steps 2 ∷
+    opensReader ∷ steps 3 ∷
+    opensWriter ∷ steps 4 ∷
+    opensReader ∷ steps 5 ∷ []
+
+-- Behind a writer and two readers a reader (slot 3) is told 1, behind two writers (slot 5) 2, and a writer behind both kinds (slot 4) all 4.
+abbrev pub EachIsToldHowMany : Type 0
+EachIsToldHowMany =
+    answers sixAsk ≡
+    Opened 0 ∷ Told Granted ∷
+    Opened 1 ∷ Told (Waiting 1) ∷
+    Opened 2 ∷ Told (Waiting 1) ∷
+    Opened 3 ∷ Told (Waiting 1) ∷
+    Opened 4 ∷ Told (Waiting 4) ∷
+    Opened 5 ∷ Told (Waiting 2) ∷ []
+
+-- So the ledger counts, slot by slot.
+abbrev pub EachWaitsFor : Type 0
+EachWaitsFor = map (waitsFor (ledgerAfter 1 sixAsk)) (0 ∷ 1 ∷ 2 ∷ 3 ∷ 4 ∷ 5 ∷ []) ≡ 0 ∷ 1 ∷ 1 ∷ 1 ∷ 4 ∷ 2 ∷ []
+
+-- How they go on. The last reader's number falls with each release of a writer, and with no reader's; the second writer's falls with each.
+abbrev pub NumbersFallWithReleases : Type 0
+NumbersFallWithReleases =
+    answers
+    (sixAsk ++
+    releases 0 ∷ steps 5 ∷ steps 4 ∷
+    steps 1 ∷ releases 1 ∷ steps 5 ∷ steps 4 ∷
+    steps 2 ∷ steps 3 ∷ releases 3 ∷ steps 5 ∷ steps 4 ∷
+    releases 2 ∷ steps 5 ∷ steps 4 ∷
+    releases 4 ∷ steps 5 ∷ []) ≡
+    answers sixAsk ++
+    Told Released ∷ Told (Waiting 1) ∷ Told (Waiting 3) ∷
+    Told Granted ∷ Told Released ∷ Told (Waiting 1) ∷ Told (Waiting 2) ∷
+    Told Granted ∷ Told Granted ∷ Told Released ∷ Told (Waiting 1) ∷ Told (Waiting 1) ∷
+    Told Released ∷ Told (Waiting 1) ∷ Told Granted ∷
+    Told Released ∷ Told Granted ∷ []

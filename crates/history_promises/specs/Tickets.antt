@@ -1,9 +1,9 @@
 -- The tickets of one record, oldest first, as the answers tell of them.
 use Prim.Native.Nat.{ℕ, zero, suc, _<_}
 use mathlib.Core.Path.{_≡_}
-use mathlib.Core.Bool.{Bool, true, false, _&&_}
+use mathlib.Core.Bool.{Bool, true, false, not, _&&_}
 use mathlib.Core.List.{List, [], _∷_}
-use lib.ListN.{getD}
+use lib.ListN.{getD, take}
 use Rattle.common.specs.Choice.{if_then_else_}
 use Rattle.agent_ticket.specs.declared.Mode.{Mode}
 use Rattle.agent_ticket.specs.declared.Mode.the-variants.{Reader, Writer}
@@ -54,6 +54,14 @@ releasedOf k l = counted (isReleased k) l
 -- Every ticket before the place i that conflicts with the kind k has been released.
 abbrev pub EarlierReleased : List Given → Mode → ℕ → Type 0
 EarlierReleased l k i = (j : ℕ) → j < i → conflicts (ticketAt l j .kind) k ≡ true → ticketAt l j .released ≡ true
+
+-- A ticket that conflicts with the kind k and has not been released,
+abbrev pub standsInTheWay : Mode → Given → Bool
+standsInTheWay k t = conflicts (t .kind) k && not (t .released)
+
+-- and how many such tickets there are before the place i.
+abbrev pub unreleasedBefore : List Given → Mode → ℕ → ℕ
+unreleasedBefore l k i = counted (standsInTheWay k) (take i l)
 
 -- All tickets have been released.
 abbrev pub AllReleased : List Given → Type 0

@@ -1,14 +1,19 @@
 -- Why a report is of a history: a run comes to what its records come to (`RunPlaysItsRecords`), and one run after the other plays the calls of
 -- both.
 -- Assumes nothing.
-use Prim.Native.Nat.{ℕ, zero, suc, _+_, _-_, _*_, _<_}
+use Prim.Native.Nat.{ℕ, zero, suc, _+_, _-_, _*_, _<_, _≤_}
 use mathlib.Core.Path.{_≡_, refl, ap, sym, _∙_}
 use mathlib.Core.List.{List, [], _∷_, _++_, append-assoc, map-append}
 use native.Mathlib.Omega.{arith}
-use lib.ListN.{length, take, drop, length-append}
+use lib.ListN.{length, getD, take, drop, length-append}
 use lib.Seq.{take-at, drop-append-add}
 use Rattle.board_call.specs.declared.Call.{Call}
-use Rattle.board_rules.specs.Answers.{saidOf}
+use Rattle.board_call.specs.declared.Call.the-variants.{Step}
+use Rattle.agent_rules.specs.declared.Answer.the-variants.{WrongPhase, Granted, Waiting, Full, Withdrawn, Released, ClearingDue, Cleared, NotYetClear, Passed}
+use Rattle.board_rules.specs.Answers.{saidWith, saidOf}
+use Rattle.board_rules.specs.declared.Said.{Said}
+use Rattle.board_rules.specs.declared.Answer.{Answer}
+use Rattle.board_rules.specs.declared.Answer.the-variants.{Refused, Begun, Opened, Told, Shown}
 use Rattle.board_rules.specs.Board.{State, stateOf, played}
 use Rattle.run_entry.specs.Entry.{ENTRY, entryOf}
 use Rattle.schedule_bytes.specs.Schedule.{callsFrom}
@@ -17,17 +22,19 @@ use Rattle.run_rules.specs.Promises.{allPlayed, entriesFrom}
 use Rattle.run_rules.proofs.Plays.{run-plays-its-records, entry-long, entries-long}
 use Rattle.run_play.specs.Comes.{Comes}
 use Rattle.run_play.specs.declared.Ran.{Ran}
-use Rattle.history_promises.specs.History.{Move, fresh, after}
+use Rattle.history_promises.specs.Ledger.{Ledger, blank, waitsFor, notedCall}
+use Rattle.history_promises.specs.History.{Move, fresh, after, events, readOff, ledgerAfter, boardAfter, answerAfter}
+use Rattle.history_promises.specs.Promises.{Demand}
 use Rattle.history_promises.specs.History.Move.{Do}
 use Rattle.history_promises.proofs.Demand.{demand-3}
 use Rattle.history_reports.specs.Reports.{Runs, noRun, oneMore}
-use Rattle.history_reports.specs.Promises.{asMoves, nthCall, ReportsAreOfHistories}
+use Rattle.history_reports.specs.Promises.{asMoves, nthCall, nthEntry, ReportsAreOfHistories}
 
 -- the entry of each call
 entry-at :
     (s : State) (cs : List Call) (k : ℕ) →
     k < length cs →
-    take ENTRY (drop (ENTRY * k) (entriesFrom s cs)) ≡ entryOf (saidOf (nthCall cs k) (played (nthCall cs k) (after s (asMoves (take k cs))) .answer))
+    nthEntry (entriesFrom s cs) k ≡ entryOf (saidOf (nthCall cs k) (played (nthCall cs k) (after s (asMoves (take k cs))) .answer))
 unfolding entriesFrom after
 entry-at s [] k h = absurd (omega arith)
 entry-at s (c ∷ cs) zero h =
@@ -40,6 +47,37 @@ entry-at s (c ∷ cs) (suc k) h =
     ap (λ (n : ℕ). take ENTRY (drop n (entryOf d ++ rest))) place ∙
     ap (take ENTRY) (drop-append-add (entryOf d) rest (ENTRY * k)) ∙
     entry-at (stateOf (played c s)) cs k (omega arith)
+
+-- the ledger after one call more
+read-next :
+    (s : State) (L : Ledger) (cs : List Call) (k : ℕ) → k < length cs →
+    readOff L (events s (asMoves (take (suc k) cs))) ≡
+    notedCall (nthCall cs k) (played (nthCall cs k) (after s (asMoves (take k cs))) .answer) (readOff L (events s (asMoves (take k cs))))
+unfolding readOff events after
+read-next s L [] k h = absurd (omega arith)
+read-next s L (c ∷ cs) zero h = refl
+read-next s L (c ∷ cs) (suc k) h = read-next (stateOf (played c s)) (notedCall c (played c s .answer) L) cs k (omega arith)
+
+outcome-byte : (d : Said) → d .outcome ≡ getD (entryOf d) 1 0
+unfolding entryOf
+outcome-byte d = refl
+
+-- the outcome 3 says waiting, with some number
+says-waiting : (k : ℕ) (a : Answer) → saidWith k a .outcome ≡ 3 → (m : ℕ) × (a ≡ Told (Waiting m))
+says-waiting k (Told (Waiting m)) e = (m, refl)
+says-waiting k (Refused n) e = absurd (omega arith)
+says-waiting k Begun e = absurd (omega arith)
+says-waiting k (Opened j) e = absurd (omega arith)
+says-waiting k (Shown w) e = absurd (omega arith)
+says-waiting k (Told WrongPhase) e = absurd (omega arith)
+says-waiting k (Told Granted) e = absurd (omega arith)
+says-waiting k (Told Full) e = absurd (omega arith)
+says-waiting k (Told Withdrawn) e = absurd (omega arith)
+says-waiting k (Told Released) e = absurd (omega arith)
+says-waiting k (Told ClearingDue) e = absurd (omega arith)
+says-waiting k (Told Cleared) e = absurd (omega arith)
+says-waiting k (Told NotYetClear) e = absurd (omega arith)
+says-waiting k (Told Passed) e = absurd (omega arith)
 
 -- one sequence after the other
 after-both : (s : State) (ms ns : List Move) → after s (ms ++ ns) ≡ after (after s ms) ns
@@ -105,7 +143,30 @@ unfolding after entriesFrom
 all-go noRun = record { board = refl; reported = refl }
 all-go (oneMore {s = s} before bytes at allowance report r words′ report′ c) = both-go (all-go before) (goes s bytes at allowance report r words′ report′ c)
 
+-- every part of what is promised
+module _ {n : ℕ} (some : 1 ≤ n) (most : n ≤ 4096) {s : State} {calls : List Call} {entries : List ℕ} (g : Goes (fresh n) s calls entries) where
+  told : (k : ℕ) → k < length calls → nthEntry entries k ≡ entryOf (saidOf (nthCall calls k) (answerAfter n (asMoves (take k calls)) (nthCall calls k)))
+  told k h = ap (λ (l : List ℕ). nthEntry l k) (g .reported) ∙ entry-at (fresh n) calls k h
+
+  holds : (k : ℕ) → Demand n (ledgerAfter n (asMoves (take k calls))) (boardAfter n (asMoves (take k calls))) (answerAfter n (asMoves (take k calls)))
+  holds k = demand-3 n some most (asMoves (take k calls))
+
+  how-many :
+      (k i : ℕ) → k < length calls → nthCall calls k ≡ Step i → getD (nthEntry entries k) 1 0 ≡ 3 →
+      nthEntry entries k ≡ entryOf (saidOf (Step i) (Told (Waiting (waitsFor (ledgerAfter n (asMoves (take (suc k) calls))) i))))
+  how-many k i h c three =
+      let says = answerAfter n (asMoves (take k calls)) in
+      let said : nthEntry entries k ≡ entryOf (saidOf (Step i) (says (Step i))) = rw c at (told k h) in
+      let waits = says-waiting _ (says (Step i)) (outcome-byte _ ∙ ap (λ (l : List ℕ). getD l 1 0) (sym said) ∙ three) in
+      let next : ledgerAfter n (asMoves (take (suc k) calls)) ≡ notedCall (Step i) (says (Step i)) (ledgerAfter n (asMoves (take k calls))) =
+      rw c at (read-next (fresh n) blank calls k h) in
+      said ∙ ap (λ (a : Answer). entryOf (saidOf (Step i) a)) (waits .1) ∙
+      ap (λ (m : ℕ). entryOf (saidOf (Step i) (Told (Waiting m))))
+      (holds k .told-how-many i (waits .0) (waits .1) ∙
+      ap (λ (a : Answer). waitsFor (notedCall (Step i) a (ledgerAfter n (asMoves (take k calls)))) i) (sym (waits .1)) ∙
+      ap (λ (L : Ledger). waitsFor L i) (sym next))
+
 pub reports-are-of-histories : ReportsAreOfHistories
 reports-are-of-histories n some most s calls entries runs =
     let g = all-go runs in
-    record { board = g .board; reported = g .reported; entry = λ k h. ap (λ (l : List ℕ). take ENTRY (drop (ENTRY * k) l)) (g .reported) ∙ entry-at (fresh n) calls k h; demand = λ k. demand-3 n some most (asMoves (take k calls)) }
+    record { board = g .board; reported = g .reported; entry = told some most g; demand = holds some most g; told-how-many = how-many some most g }

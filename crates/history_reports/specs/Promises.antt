@@ -1,13 +1,14 @@
 -- What is promised of reports. A statement only: proofs/ has why it holds.
-use Prim.Native.Nat.{ℕ, _*_, _<_, _≤_}
+use Prim.Native.Nat.{ℕ, suc, _*_, _<_, _≤_}
 use mathlib.Core.Path.{_≡_}
 use mathlib.Core.List.{List, map}
 use lib.ListN.{length, getD, take, drop}
 use Rattle.board_call.specs.declared.Call.{Call}
-use Rattle.board_call.specs.declared.Call.the-variants.{Show}
-use Rattle.board_rules.specs.Answers.{saidOf}
+use Rattle.board_call.specs.declared.Call.the-variants.{Step, Show}
+use Rattle.board_rules.specs.Answers.{namedSlot, saidOf}
 use Rattle.board_rules.specs.Board.{State}
 use Rattle.run_entry.specs.Entry.{ENTRY, entryOf}
+use Rattle.history_promises.specs.Ledger.{waitsFor}
 use Rattle.history_promises.specs.History.{Move, fresh, boardAfter, ledgerAfter, answerAfter}
 use Rattle.history_promises.specs.History.Move.{Do}
 use Rattle.history_promises.specs.Promises.{Demand}
@@ -20,18 +21,30 @@ asMoves cs = map (λ (c : Call). Do c) cs
 abbrev pub nthCall : List Call → ℕ → Call
 nthCall cs k = getD cs k (Show 0)
 
+-- The k-th 12 bytes.
+abbrev pub nthEntry : List ℕ → ℕ → List ℕ
+nthEntry entries k = take ENTRY (drop (ENTRY * k) entries)
+
 -- The entries are those of a sequence of calls on the fresh board, and the board is the one that these calls leave. The k-th 12 bytes tell the
--- answer to the k-th call after the k calls before it, and there demand 3 holds.
+-- answer to the k-th call after the k calls before it, and there demand 3 holds. D3.8 in bytes: where the outcome of a step is 3, waiting,
+-- the value is the number of tickets that its slot waits for after that call.
 pub record OfAHistory (n : ℕ) (s : State) (calls : List Call) (entries : List ℕ) : Type 0 where
   pub board : s ≡ boardAfter n (asMoves calls)
   pub reported : entries ≡ entriesFrom (fresh n) calls
   pub entry :
       (k : ℕ) →
       k < length calls →
-      take ENTRY (drop (ENTRY * k) entries) ≡ entryOf (saidOf (nthCall calls k) (answerAfter n (asMoves (take k calls)) (nthCall calls k)))
+      nthEntry entries k ≡ entryOf (saidOf (nthCall calls k) (answerAfter n (asMoves (take k calls)) (nthCall calls k)))
   pub demand :
       (k : ℕ) →
       Demand n (ledgerAfter n (asMoves (take k calls))) (boardAfter n (asMoves (take k calls))) (answerAfter n (asMoves (take k calls)))
+  pub told-how-many :
+      (k i : ℕ) →
+      k < length calls →
+      nthCall calls k ≡ Step i →
+      getD (nthEntry entries k) 1 0 ≡ 3 →
+      nthEntry entries k ≡
+      entryOf (record { number = 0; outcome = 3; slot = namedSlot (Step i); value = waitsFor (ledgerAfter n (asMoves (take (suc k) calls))) i })
 
 -- Whatever is played by runs on a fresh board, in however many pieces.
 abbrev pub ReportsAreOfHistories : Type 0
