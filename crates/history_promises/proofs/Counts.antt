@@ -58,6 +58,13 @@ module _ {A : Type 0} (f : A → Bool) where
   counted-le [] = omega (arith, counted-nil)
   counted-le (a ∷ l) = let i = counted-le l in let b = one-le (f a) in omega (arith, counted-cons a l)
 
+  -- no more pass before a place than in all
+  pub counted-take : (l : List A) (p : ℕ) → counted f (take p l) ≤ counted f l
+  counted-take [] zero = omega arith
+  counted-take [] (suc p) = omega arith
+  counted-take (a ∷ l) zero = omega (arith, counted-nil)
+  counted-take (a ∷ l) (suc p) = let i = counted-take l p in omega (arith, counted-cons a l, counted-cons a (take p l))
+
   -- none passes before a place exactly when each fails there
   pub none-each : (l : List A) (p : ℕ) (d : A) → counted f (take p l) ≡ 0 → (j : ℕ) → j < p → j < length l → f (getD l j d) ≡ false
   none-each [] p d h j k m = absurd (omega arith)

@@ -29,9 +29,9 @@ use Rattle.history_promises.specs.Ledger.{Stage, Seat, Ledger, seated, t
 use Rattle.history_promises.specs.Ledger.Stage.{Nobody, Asks, Waits, Holds, Owes, Clears}
 use Rattle.history_promises.specs.Promises.{OpenTells, OpensWhereNobodySits, WriterHoldsAlone, DrawnIsGrantedExactly, WaitingIsGrantedExactly, NonePassed, FullExactly, NoneOwed, ClearedOnly, ClearedThen, CountersStaySmall, StepTells, ToldHowMany, Demand, Demand3}
 use Rattle.history_promises.proofs.Counts.{clash, true-or-false, below-none, none-below}
-use Rattle.history_promises.proofs.Turns.{aheadNow, ahead-earlier, earlier-ahead}
+use Rattle.history_promises.proofs.Turns.{aheadNow, few-ahead, ahead-earlier, earlier-ahead}
 use Rattle.history_promises.proofs.Words.{topped, topped-or, or-topped, clearingFor, wordAtRest, at-rest, rests, word-counted, counters-small}
-use Rattle.history_promises.proofs.Tied.{Facts, Tied, few-owed}
+use Rattle.history_promises.proofs.Tied.{isNobody, Facts, Tied, few-owed}
 use Rattle.history_promises.proofs.Sent.{went, step-nobody, step-holds, step-owes, step-clears, step-waits, step-asks-full, step-asks-turn, release-nobody, release-asks, release-waits, release-owes, release-clears, release-holds}
 use Rattle.history_promises.proofs.Moves.{put-same, wordNow, clearing-last, owes-here}
 use Rattle.history_promises.proofs.Kept.{nobody-there, somebody-there, keeps-at, tied}
@@ -127,6 +127,11 @@ module _ {n : ℕ} {s : State} {L : Ledger} (T : Tied n s L) where
   abbrev longer : ℕ → List Given
   longer i = mine L i ++ record { kind = L .seats i .kind; slot = i; released = false } ∷ []
 
+  asks-same : (i : ℕ) → aheadNow (L .seats i .kind) (longer i) (length (mine L i)) ≡ aheadNow (L .seats i .kind) (mine L i) (length (mine L i))
+  asks-same i =
+      let seam : take (length (mine L i)) (longer i) ≡ take (length (mine L i)) (mine L i) = take-append-seam (mine L i) _ ∙ sym (take-length (mine L i)) in
+      rw seam refl
+
   asks-turn :
       (i : ℕ) → L .seats i .stage ≡ Asks → topped (mine L i) ≡ false →
       (played (Step i) s .answer ≡ Told tells.Full → ⊥) × ((played (Step i) s .answer ≡ Told tells.Granted) ↔ (eqb (aheadNow (L .seats i .kind) (longer i) (length (mine L i))) 0 ≡ true))
@@ -148,8 +153,7 @@ module _ {n : ℕ} {s : State} {L : Ledger} (T : Tied n s L) where
       exactly : topped (mine L i) ≡ false → (played (Step i) s .answer ≡ Told tells.Granted) ↔ EarlierReleased (mine L i) (L .seats i .kind) (length (mine L i))
       exactly low =
           let p = asks-turn i e low .1 in
-          let seam : take (length (mine L i)) (longer i) ≡ take (length (mine L i)) (mine L i) = take-append-seam (mine L i) _ ∙ sym (take-length (mine L i)) in
-          let same : aheadNow (L .seats i .kind) (longer i) (length (mine L i)) ≡ aheadNow (L .seats i .kind) (mine L i) (length (mine L i)) = rw seam refl in
+          let same = asks-same i in
           let x = ahead-exactly (L .seats i .kind) (mine L i) (length (mine L i)) (omega arith) in
           ((λ h. x .0 (rw same at (p .0 h))), (λ r. p .1 (rw same (x .1 r))))
 
@@ -341,44 +345,58 @@ module _ {n : ℕ} {s : State} {L : Ledger} (T : Tied n s L) where
   seat-waits : (M : Ledger) (i : ℕ) (t : Seat) → waitsFor (seated M i t) i ≡ unreleasedBefore (M .tickets (t .about)) (t .kind) (t .place)
   seat-waits M i t = ap (λ (u : Seat). unreleasedBefore (M .tickets (u .about)) (u .kind) (u .place)) (put-same (M .seats) i t)
 
-  told-how-many : ToldHowMany L (λ c. played c s .answer)
-  told-how-many i m told = by (L .seats i .stage) refl
+  told-ahead : (i m : ℕ) → stepped i s .answer ≡ Told (tells.Waiting m) → (m ≡ waitsFor (grantedOrWaits (L .seats i .stage) i Waits L) i) × (m ≤ 65536)
+  told-ahead i m told = by (L .seats i .stage) refl
     where
       P : Stage → Type 0
-      P g = m ≡ waitsFor (grantedOrWaits g i Waits L) i
+      P g = (m ≡ waitsFor (grantedOrWaits g i Waits L) i) × (m ≤ 65536)
 
       other : (g : Stage) → L .seats i .stage ≡ g → StepTells g (Told (tells.Waiting m))
       other g e = subst (StepTells g) told (subst (λ (h : Stage). StepTells h (stepped i s .answer)) e (told-by-stage T i .0))
 
-      by : (g : Stage) → L .seats i .stage ≡ g → P (L .seats i .stage)
-      by Asks e =
+      drawn-waits : waitsFor (drawn i Waits L) i ≡ aheadNow (L .seats i .kind) (longer i) (length (mine L i))
+      drawn-waits =
+          seat-waits (ticketsNow L (L .seats i .about) (longer i)) i _ ∙
+          ap (λ (l : List Given). unreleasedBefore l (L .seats i .kind) (length (mine L i))) (put-same (L .tickets) (L .seats i .about) (longer i))
+
+      few : (g : Stage) → L .seats i .stage ≡ g → isNobody g ≡ false → (p : ℕ) → aheadNow (L .seats i .kind) (mine L i) p ≤ 65536
+      few g e f p = let a = T .agrees (L .seats i .about) (lent-to T i g e f) in few-ahead (L .seats i .kind) (mine L i) p (a .cap Writer) (a .cap Reader)
+
+      asked : L .seats i .stage ≡ Asks → topped (mine L i) ≡ false → m ≡ aheadNow (L .seats i .kind) (longer i) (length (mine L i))
+      asked e low =
           let here = in-board T i Asks e refl in
           let lent = lent-to T i Asks e refl in
-          let a = T .agrees (L .seats i .about) lent in
-          let eq : topped (mine L i) ≡ false → _ = λ low. ap (λ (d : Done). d .answer) (step-asks-turn s i here (L .seats i) (mine L i) (omega (arith, T .words-long)) (omega (arith, T .most)) a low (keeps-at T i here Asks e)) in
-          subst P (sym e)
-          (⊎-elim
-          (λ top. let z : _≡_ {A = ℕ} 0 1 = full-waits (sym (asks-full i e top) ∙ told) in absurd (omega arith))
-          (λ low. told-number (eqb (aheadNow (L .seats i .kind) (longer i) (length (mine L i))) 0) _ _ _ m refl refl (sym (eq low) ∙ told) ∙ sym (drawn-waits))
-          (true-or-false (topped (mine L i))))
-        where
-          full-waits : Told tells.Full ≡ Told (tells.Waiting m) → _≡_ {A = ℕ} 0 1
-          full-waits z = cc
+          let eq = ap (λ (d : Done). d .answer) (step-asks-turn s i here (L .seats i) (mine L i) (omega (arith, T .words-long)) (omega (arith, T .most)) (T .agrees (L .seats i .about) lent) low (keeps-at T i here Asks e)) in
+          told-number (eqb (aheadNow (L .seats i .kind) (longer i) (length (mine L i))) 0) _ _ _ m refl refl (sym eq ∙ told)
 
-          drawn-waits : waitsFor (drawn i Waits L) i ≡ aheadNow (L .seats i .kind) (longer i) (length (mine L i))
-          drawn-waits =
-              seat-waits (ticketsNow L (L .seats i .about) (longer i)) i _ ∙
-              ap (λ (l : List Given). unreleasedBefore l (L .seats i .kind) (length (mine L i))) (put-same (L .tickets) (L .seats i .about) (longer i))
-      by Waits e =
+      waited : L .seats i .stage ≡ Waits → m ≡ aheadNow (L .seats i .kind) (mine L i) (L .seats i .place)
+      waited e =
           let here = in-board T i Waits e refl in
           let lent = lent-to T i Waits e refl in
           let eq = ap (λ (d : Done). d .answer) (step-waits s i here (L .seats i) (mine L i) (omega (arith, T .words-long)) (omega (arith, T .most)) (T .agrees (L .seats i .about) lent) (keeps-at T i here Waits e) (facts-of T i Waits e refl)) in
+          told-number (eqb (aheadNow (L .seats i .kind) (mine L i) (L .seats i .place)) 0) _ _ _ m refl refl (sym eq ∙ told)
+
+      by : (g : Stage) → L .seats i .stage ≡ g → P (L .seats i .stage)
+      by Asks e =
           subst P (sym e)
-          (told-number (eqb (aheadNow (L .seats i .kind) (mine L i) (L .seats i .place)) 0) _ _ _ m refl refl (sym eq ∙ told) ∙ sym (seat-waits L i (staged Waits (L .seats i))))
+          (⊎-elim
+          (λ top. let q = sym (asks-full i e top) ∙ told in let z : _≡_ {A = ℕ} 0 1 = cc in absurd (omega arith))
+          (λ low. let q = asked e low in (q ∙ sym drawn-waits, omega (arith, few Asks e refl (length (mine L i)), asks-same i)))
+          (true-or-false (topped (mine L i))))
+      by Waits e =
+          let q = waited e in
+          subst P (sym e) (q ∙ sym (seat-waits L i (staged Waits (L .seats i))), omega (arith, few Waits e refl (L .seats i .place)))
       by Nobody e = ⊎-elim (λ q. let z : _≡_ {A = ℕ} 0 1 = cc in absurd (omega arith)) (λ q. let z : _≡_ {A = ℕ} 0 1 = cc in absurd (omega arith)) (other Nobody e)
       by Holds e = let q = other Holds e in let z : _≡_ {A = ℕ} 0 1 = cc in absurd (omega arith)
       by Owes e = let q = other Owes e in let z : _≡_ {A = ℕ} 0 1 = cc in absurd (omega arith)
       by Clears e = ⊎-elim (λ q. let z : _≡_ {A = ℕ} 0 1 = cc in absurd (omega arith)) (λ q. let z : _≡_ {A = ℕ} 0 1 = cc in absurd (omega arith)) (other Clears e)
+
+  told-how-many : ToldHowMany L (λ c. played c s .answer)
+  told-how-many i m told = told-ahead i m told .0
+
+  -- never so many that eight bytes would not hold it
+  pub told-few : (i m : ℕ) → played (Step i) s .answer ≡ Told (tells.Waiting m) → m ≤ 65536
+  told-few i m told = told-ahead i m told .1
 
   pub demand : Demand n L s (λ c. played c s .answer)
   demand =

@@ -1,4 +1,4 @@
-pub mod Stories
+pub mod Ahead
 pub mod Counts
 pub mod Order
 pub mod Turns
@@ -10,4 +10,5 @@ pub mod Moves
 pub mod Kept
 pub mod Seats
 pub mod Demand
+pub mod Stories
 pub mod Empty

@@ -8,8 +8,7 @@ use Rattle.board_slots.specs.Slots.{lowestFree}
 use Rattle.board_rules.specs.Records.{refusalOf}
 use Rattle.board_rules.specs.Board.{opened, sent, stepped, released}
 use Rattle.history_promises.specs.History.{events, readOff}
-use Rattle.history_promises.specs.Tickets.{counted}
-use Rattle.history_promises.specs.Stories.{SlowReaderIsGranted, SlowReaderInTheLedger, WriterWaitsForReaders, ReaderStaysBehindWriter, EachIsToldHowMany, EachWaitsFor, NumbersFallWithReleases}
+use Rattle.history_promises.specs.Stories.{SlowReaderIsGranted, SlowReaderInTheLedger, WriterWaitsForReaders, ReaderStaysBehindWriter, EachIsToldHowMany, SixInTheLedger, NumbersFallWithReleases}
 
 pub slow-reader-is-granted : SlowReaderIsGranted
 unfolding events opened sent stepped released refusalOf lowestFree stepSends releaseSends stepTakes releaseTakes turnOf clearingWordOf asked
@@ -31,9 +30,9 @@ pub each-is-told-how-many : EachIsToldHowMany
 unfolding events opened sent stepped released refusalOf lowestFree stepSends releaseSends stepTakes releaseTakes turnOf clearingWordOf asked
 each-is-told-how-many = refl
 
-pub each-waits-for : EachWaitsFor
-unfolding events readOff counted opened sent stepped released refusalOf lowestFree stepSends releaseSends stepTakes releaseTakes turnOf clearingWordOf asked
-each-waits-for = refl
+pub six-in-the-ledger : SixInTheLedger
+unfolding events readOff opened sent stepped released refusalOf lowestFree stepSends releaseSends stepTakes releaseTakes turnOf clearingWordOf asked
+six-in-the-ledger = (refl, refl)
 
 pub numbers-fall-with-releases : NumbersFallWithReleases
 unfolding events opened sent stepped released refusalOf lowestFree stepSends releaseSends stepTakes releaseTakes turnOf clearingWordOf asked

@@ -19,8 +19,8 @@ use Rattle.agent_ticket.specs.declared.Mode.the-variants.{Reader, Writer}
 use Rattle.agent_ticket.proofs.Behind.{reader-waits-for-writers, writer-waits-for-both}
 use Rattle.history_promises.specs.Tickets.{Given, conflicts, pastTheLast, ticketAt, sameKind, counted, givenOf, releasedOf, EarlierReleased, standsInTheWay, unreleasedBefore, AllReleased}
 use Rattle.history_promises.specs.Ledger.{one}
-use Rattle.history_promises.proofs.Counts.{clash, counted-cons, counted-nil, none-each, each-none}
-use Rattle.history_promises.proofs.Order.{isOpen, openOf, Ordered, before-open}
+use Rattle.history_promises.proofs.Counts.{clash, counted-cons, counted-nil, counted-take, none-each, each-none}
+use Rattle.history_promises.proofs.Order.{isOpen, openOf, all-split, Ordered, before-open}
 
 abbrev pub drawnAt : ℕ → ℕ → Ticket
 drawnAt x s = record { 0 = record { 0 = x }; 1 = record { 0 = s } }
@@ -56,6 +56,12 @@ in-the-way Reader (t ∷ l) =
 in-the-way Writer (t ∷ l) =
     let i = in-the-way Writer l in
     omega (arith, one-both Writer t, counted-cons (standsInTheWay Writer) t l, counted-cons (isOpen Writer) t l, counted-cons (isOpen Reader) t l)
+
+-- never more than were given
+pub few-ahead : (k : Mode) (l : List Given) (p : ℕ) → givenOf Writer l ≤ 32768 → givenOf Reader l ≤ 32768 → aheadNow k l p ≤ 65536
+few-ahead Reader l p w r = omega (arith, in-the-way Reader (take p l), counted-take (isOpen Writer) l p, all-split Writer l)
+few-ahead Writer l p w r =
+    omega (arith, in-the-way Writer (take p l), counted-take (isOpen Writer) l p, counted-take (isOpen Reader) l p, all-split Writer l, all-split Reader l)
 
 pub turn-law :
     (k : Mode) (l : List Given) (p : ℕ) (v : Counters) → Ordered l → p < length l → ticketAt l p .released ≡ false → ticketAt l p .kind ≡ k →

@@ -3,13 +3,16 @@ use Prim.Native.Nat.{ℕ}
 use mathlib.Core.Path.{_≡_}
 use mathlib.Core.Bool.{true, false}
 use mathlib.Core.List.{List, [], _∷_, _++_, map}
+use lib.ListN.{getD}
+use Rattle.agent_ticket.specs.declared.Mode.{Mode}
 use Rattle.agent_ticket.specs.declared.Mode.the-variants.{Reader, Writer}
 use Rattle.board_call.specs.declared.Call.the-variants.{Open, Step, Release}
 use Rattle.agent_rules.specs.declared.Answer.the-variants.{Granted, Waiting, Released}
 use Rattle.board_rules.specs.declared.Answer.{Answer}
 use Rattle.board_rules.specs.declared.Answer.the-variants.{Opened, Told}
-use Rattle.history_promises.specs.Ledger.{waitsFor}
-use Rattle.history_promises.specs.Ledger.Stage.{Holds}
+use Rattle.history_promises.specs.Tickets.{Given}
+use Rattle.history_promises.specs.Ledger.{Stage, Seat, waitsFor}
+use Rattle.history_promises.specs.Ledger.Stage.{Waits, Holds}
 use Rattle.history_promises.specs.History.{Move, Event, fresh, events, ledgerAfter}
 use Rattle.history_promises.specs.History.Move.{Do}
 
@@ -106,9 +109,27 @@ EachIsToldHowMany =
     Opened 4 ∷ Told (Waiting 4) ∷
     Opened 5 ∷ Told (Waiting 2) ∷ []
 
--- So the ledger counts, slot by slot.
+-- What the ledger then says: six tickets, none released, each of the slot with its place.
+abbrev sixKinds : List Mode
+sixKinds = Writer ∷ Reader ∷ Reader ∷ Reader ∷ Writer ∷ Reader ∷ []
+
+abbrev sixSlots : List ℕ
+sixSlots = 0 ∷ 1 ∷ 2 ∷ 3 ∷ 4 ∷ 5 ∷ []
+
+abbrev sixTickets : List Given
+sixTickets = map (λ (i : ℕ). record { kind = getD sixKinds i Reader; slot = i; released = false }) sixSlots
+
+abbrev sixSeat : Stage → ℕ → Seat
+sixSeat g i = record { stage = g; about = 0; kind = getD sixKinds i Reader; place = i }
+
+abbrev pub SixInTheLedger : Type 0
+SixInTheLedger =
+    (ledgerAfter 1 sixAsk .tickets 0 ≡ sixTickets) ×
+    (map (ledgerAfter 1 sixAsk .seats) sixSlots ≡ sixSeat Holds 0 ∷ map (sixSeat Waits) (1 ∷ 2 ∷ 3 ∷ 4 ∷ 5 ∷ []))
+
+-- In such a ledger each slot waits for as many as it was told.
 abbrev pub EachWaitsFor : Type 0
-EachWaitsFor = map (waitsFor (ledgerAfter 1 sixAsk)) (0 ∷ 1 ∷ 2 ∷ 3 ∷ 4 ∷ 5 ∷ []) ≡ 0 ∷ 1 ∷ 1 ∷ 1 ∷ 4 ∷ 2 ∷ []
+EachWaitsFor = map (waitsFor (record { tickets = λ r. sixTickets; seats = sixSeat Waits })) sixSlots ≡ 0 ∷ 1 ∷ 1 ∷ 1 ∷ 4 ∷ 2 ∷ []
 
 -- How they go on. The last reader's number falls with each release of a writer, and with no reader's; the second writer's falls with each.
 abbrev pub NumbersFallWithReleases : Type 0
@@ -118,11 +139,9 @@ NumbersFallWithReleases =
     releases 0 ∷ steps 5 ∷ steps 4 ∷
     steps 1 ∷ releases 1 ∷ steps 5 ∷ steps 4 ∷
     steps 2 ∷ steps 3 ∷ releases 3 ∷ steps 5 ∷ steps 4 ∷
-    releases 2 ∷ steps 5 ∷ steps 4 ∷
-    releases 4 ∷ steps 5 ∷ []) ≡
+    releases 2 ∷ steps 5 ∷ steps 4 ∷ releases 4 ∷ steps 5 ∷ []) ≡
     answers sixAsk ++
     Told Released ∷ Told (Waiting 1) ∷ Told (Waiting 3) ∷
     Told Granted ∷ Told Released ∷ Told (Waiting 1) ∷ Told (Waiting 2) ∷
     Told Granted ∷ Told Granted ∷ Told Released ∷ Told (Waiting 1) ∷ Told (Waiting 1) ∷
-    Told Released ∷ Told (Waiting 1) ∷ Told Granted ∷
-    Told Released ∷ Told Granted ∷ []
+    Told Released ∷ Told (Waiting 1) ∷ Told Granted ∷ Told Released ∷ Told Granted ∷ []

@@ -5,7 +5,7 @@ use Prim.Native.Nat.{ℕ, zero, suc, _+_, _-_, _*_, _<_, _≤_}
 use mathlib.Core.Path.{_≡_, refl, ap, sym, _∙_}
 use mathlib.Core.List.{List, [], _∷_, _++_, append-assoc, map-append}
 use native.Mathlib.Omega.{arith}
-use lib.ListN.{length, getD, take, drop, length-append}
+use lib.ListN.{length, take, drop, length-append}
 use lib.Seq.{take-at, drop-append-add}
 use Rattle.board_call.specs.declared.Call.{Call}
 use Rattle.board_call.specs.declared.Call.the-variants.{Step}
@@ -16,6 +16,7 @@ use Rattle.board_rules.specs.declared.Answer.{Answer}
 use Rattle.board_rules.specs.declared.Answer.the-variants.{Refused, Begun, Opened, Told, Shown}
 use Rattle.board_rules.specs.Board.{State, stateOf, played}
 use Rattle.run_entry.specs.Entry.{ENTRY, entryOf}
+use Rattle.run_entry.proofs.ReadsBack.{entry-reads-back}
 use Rattle.schedule_bytes.specs.Schedule.{callsFrom}
 use Rattle.run_rules.specs.Run.{runOf}
 use Rattle.run_rules.specs.Promises.{allPlayed, entriesFrom}
@@ -26,9 +27,10 @@ use Rattle.history_promises.specs.Ledger.{Ledger, blank, waitsFor, notedCall}
 use Rattle.history_promises.specs.History.{Move, fresh, after, events, readOff, ledgerAfter, boardAfter, answerAfter}
 use Rattle.history_promises.specs.Promises.{Demand}
 use Rattle.history_promises.specs.History.Move.{Do}
-use Rattle.history_promises.proofs.Demand.{demand-3}
+use Rattle.history_promises.proofs.Kept.{tied}
+use Rattle.history_promises.proofs.Demand.{told-few, demand-3}
 use Rattle.history_reports.specs.Reports.{Runs, noRun, oneMore}
-use Rattle.history_reports.specs.Promises.{asMoves, nthCall, nthEntry, ReportsAreOfHistories}
+use Rattle.history_reports.specs.Promises.{asMoves, nthCall, nthEntry, outcomeIn, valueIn, ReportsAreOfHistories}
 
 -- the entry of each call
 entry-at :
@@ -58,7 +60,7 @@ read-next s L [] k h = absurd (omega arith)
 read-next s L (c ∷ cs) zero h = refl
 read-next s L (c ∷ cs) (suc k) h = read-next (stateOf (played c s)) (notedCall c (played c s .answer) L) cs k (omega arith)
 
-outcome-byte : (d : Said) → d .outcome ≡ getD (entryOf d) 1 0
+outcome-byte : (d : Said) → d .outcome ≡ outcomeIn (entryOf d)
 unfolding entryOf
 outcome-byte d = refl
 
@@ -152,19 +154,20 @@ module _ {n : ℕ} (some : 1 ≤ n) (most : n ≤ 4096) {s : State} {calls : Lis
   holds k = demand-3 n some most (asMoves (take k calls))
 
   how-many :
-      (k i : ℕ) → k < length calls → nthCall calls k ≡ Step i → getD (nthEntry entries k) 1 0 ≡ 3 →
-      nthEntry entries k ≡ entryOf (saidOf (Step i) (Told (Waiting (waitsFor (ledgerAfter n (asMoves (take (suc k) calls))) i))))
+      (k i : ℕ) → k < length calls → nthCall calls k ≡ Step i → outcomeIn (nthEntry entries k) ≡ 3 →
+      valueIn (nthEntry entries k) ≡ waitsFor (ledgerAfter n (asMoves (take (suc k) calls))) i
   how-many k i h c three =
       let says = answerAfter n (asMoves (take k calls)) in
       let said : nthEntry entries k ≡ entryOf (saidOf (Step i) (says (Step i))) = rw c at (told k h) in
-      let waits = says-waiting _ (says (Step i)) (outcome-byte _ ∙ ap (λ (l : List ℕ). getD l 1 0) (sym said) ∙ three) in
+      let waits = says-waiting _ (says (Step i)) (outcome-byte _ ∙ ap outcomeIn (sym said) ∙ three) in
       let next : ledgerAfter n (asMoves (take (suc k) calls)) ≡ notedCall (Step i) (says (Step i)) (ledgerAfter n (asMoves (take k calls))) =
       rw c at (read-next (fresh n) blank calls k h) in
-      said ∙ ap (λ (a : Answer). entryOf (saidOf (Step i) a)) (waits .1) ∙
-      ap (λ (m : ℕ). entryOf (saidOf (Step i) (Told (Waiting m))))
-      (holds k .told-how-many i (waits .0) (waits .1) ∙
+      let few = told-few (tied n some most (asMoves (take k calls))) i (waits .0) (waits .1) in
+      ap valueIn (said ∙ ap (λ (a : Answer). entryOf (saidOf (Step i) a)) (waits .1)) ∙
+      entry-reads-back (saidOf (Step i) (Told (Waiting (waits .0)))) (omega arith) .value ∙
+      holds k .told-how-many i (waits .0) (waits .1) ∙
       ap (λ (a : Answer). waitsFor (notedCall (Step i) a (ledgerAfter n (asMoves (take k calls)))) i) (sym (waits .1)) ∙
-      ap (λ (L : Ledger). waitsFor L i) (sym next))
+      ap (λ (L : Ledger). waitsFor L i) (sym next)
 
 pub reports-are-of-histories : ReportsAreOfHistories
 reports-are-of-histories n some most s calls entries runs =
