@@ -133,7 +133,7 @@ typedef struct brancove_verb {
 typedef struct brancove_told {
     uint8_t number;
     uint8_t outcome;
-    /* the number ahead where the outcome is to wait, else 0; a reader's counts earlier readers too, whom it does not wait for */
+    /* where the outcome is to wait: how many earlier tickets it waits for, a reader for writers, a writer for both; else 0 */
     uint64_t ahead;
 } brancove_told;
 

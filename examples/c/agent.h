@@ -13,7 +13,7 @@ typedef _Atomic uint64_t lock_word;
 
 struct agent {
     lock_word *words;                        /* one word a record, 0 at first */
-    void (*wait_for_turn)(uint64_t ahead);   /* between two reads; so many tickets are ahead */
+    void (*wait_for_turn)(uint64_t ahead);   /* between two reads; it waits for so many tickets */
     void (*wait_for_room)(unsigned times);   /* after being turned away so many times */
     brancove_request request;                /* all zero at first */
     const char *wrong;                       /* what should never happen and did, or NULL */
