@@ -51,8 +51,9 @@
  *   - The order of memory: nothing of the record is read or written before the result that granted it has come, and everything read
  *     or written is complete before the release is sent. With C11 atomics: acquire on the verbs of a step, release on that of a release.
  *
- * A process that dies while it holds or waits blocks its record: those behind it are told waiting, with a number that no longer falls.
- * One that dies owing or clearing leaves the record full. A waiting request cannot give up, since its ticket is in everybody's count.
+ * A process that dies while it holds or waits blocks its record: whoever conflicts with it behind it, and whoever conflicts with these
+ * in turn, is told waiting, with a number that stops falling. One that dies owing or clearing leaves the record full. A waiting request
+ * cannot give up, since others count on its release.
  *
  * docs/AGENT.md has all of this at length, with RDMA and with what an operator can do; examples/c/first.c is the loop as a program, and
  * examples/c/agent.c a whole agent.

@@ -61,8 +61,10 @@ edges =
     edge step (requestIn Asking seven (ticket 0 0) NONE) (word 0 0 0 1) (requestIn Waiting seven (ticket 0 1) NONE) (word 0 0 1 1) (acceptedWith 3 1) ∷
     edge step (requestIn Owing seven (ticket 5 6) 9) (word 0 0 1 0) freeRequest (word 0 0 0 0) (acceptedWith 5 0) ∷
     -- the most that are told ahead: a reader waits for writers, a writer for both kinds
-    edge step (requestIn Waiting reader (ticket 65535 65535) NONE) (word 0 0 0 0) (requestIn Waiting reader (ticket 65535 65535) NONE) (word 0 0 0 0) (acceptedWith 3 65535) ∷
-    edge step (requestIn Waiting writer (ticket 65535 65535) NONE) (word 0 0 0 0) (requestIn Waiting writer (ticket 65535 65535) NONE) (word 0 0 0 0) (acceptedWith 3 131070) ∷
+    edge step (requestIn Waiting reader (ticket 65535 65535) NONE) (word 0 0 0 0)
+    (requestIn Waiting reader (ticket 65535 65535) NONE) (word 0 0 0 0) (acceptedWith 3 65535) ∷
+    edge step (requestIn Waiting writer (ticket 65535 65535) NONE) (word 0 0 0 0)
+    (requestIn Waiting writer (ticket 65535 65535) NONE) (word 0 0 0 0) (acceptedWith 3 131070) ∷
     -- clearing without a clearing word swaps 0 for 0
     edge step (requestIn Clearing reader (ticket 0 0) NONE) (word 0 0 0 0) freeRequest (word 0 0 0 0) (acceptedWith 8 0) ∷
     edge step (requestIn Clearing reader (ticket 0 0) NONE) (word 0 0 0 5) (requestIn Clearing reader (ticket 0 0) NONE) (word 0 0 0 5) (acceptedWith 9 0) ∷

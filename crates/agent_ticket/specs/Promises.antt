@@ -14,12 +14,12 @@ use Rattle.agent_ticket.specs.declared.Turn.the-variants.{Granted, Ahead
 abbrev pub behind : ℕ → Turn
 behind n = if eqb n 0 then Granted else Ahead n
 
--- A reader's ticket was drawn when a more writers had drawn theirs than have now let go: it waits for these a, however many readers came
--- and went.
+-- Where x is nX and a more, a reader is behind a tickets, whatever the shared numbers are. (Its ticket was drawn when so many writers more
+-- had drawn theirs than have now let go.)
 abbrev pub ReaderWaitsForWriters : Type 0
 ReaderWaitsForWriters = (a : ℕ) (t : Ticket) (v : Counters) → t .0 .0 ≡ v .nx .0 + a → turnOf Reader t v ≡ behind a
 
--- A writer's was drawn when a more writers and b more readers had drawn theirs than have now let go: it waits for both.
+-- Where x is nX and a more, and s is nS and b more, a writer is behind both.
 abbrev pub WriterWaitsForBoth : Type 0
 WriterWaitsForBoth =
     (a b : ℕ) (t : Ticket) (v : Counters) → t .0 .0 ≡ v .nx .0 + a → t .1 .0 ≡ v .ns .0 + b → turnOf Writer t v ≡ behind (a + b)

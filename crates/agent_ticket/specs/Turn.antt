@@ -15,8 +15,8 @@ abbrev pub isWriter : Mode → Bool
 isWriter Reader = false
 isWriter Writer = true
 
--- Rule 3.7: The number ahead of a ticket (x, s), at counters v: x - v.nX for a reader, (x - v.nX) + (s - v.nS) for a writer. Who is not told
--- passed has neither difference below 0.
+-- Rule 3.7: The number ahead of a ticket (x, s), at counters v: x - v.nX for a reader, (x - v.nX) + (s - v.nS) for a writer. Where it is told,
+-- no difference in it is below 0: the ticket would have passed.
 abbrev pub aheadOf : Mode → Ticket → Counters → ℕ
 aheadOf Reader t v = beyondX (t .0) (v .nx)
 aheadOf Writer t v = beyondX (t .0) (v .nx) + beyondS (t .1) (v .ns)

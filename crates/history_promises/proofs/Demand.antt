@@ -27,7 +27,7 @@ use Rattle.board_rules.specs.Board.{State, Done, opened, stepped, released, sho
 use Rattle.history_promises.specs.Tickets.{Given, conflicts, ticketAt, sameKind, EarlierReleased, unreleasedBefore, AllReleased}
 use Rattle.history_promises.specs.Ledger.{Stage, Seat, Ledger, seated, ticketsNow, mine, waitsFor, isOwing, owesOn, drawn, staged, grantedOrWaits}
 use Rattle.history_promises.specs.Ledger.Stage.{Nobody, Asks, Waits, Holds, Owes, Clears}
-use Rattle.history_promises.specs.Promises.{OpenTells, OpensWhereNobodySits, WriterHoldsAlone, DrawnIsGrantedExactly, WaitingIsGrantedExactly, NonePassed, FullExactly, NoneOwed, ClearedOnly, ClearedThen, CountersStaySmall, StepTells, ToldHowMany, Demand, Demand3}
+use Rattle.history_promises.specs.Promises.{OpenTells, OpensWhereNobodySits, WriterHoldsAlone, DrawnIsGrantedExactly, WaitingIsGrantedExactly, NonePassed, FullExactly, NoneOwed, ClearedOnly, ClearedThen, CountersStaySmall, StepTells, ToldHowMany, NoneToWaitFor, Demand, Demand3}
 use Rattle.history_promises.proofs.Counts.{clash, true-or-false, below-none, none-below}
 use Rattle.history_promises.proofs.Turns.{aheadNow, few-ahead, ahead-earlier, earlier-ahead}
 use Rattle.history_promises.proofs.Words.{topped, topped-or, or-topped, clearingFor, wordAtRest, at-rest, rests, word-counted, counters-small}
@@ -61,6 +61,18 @@ isPassed tells.Released = false
 isPassed tells.ClearingDue = false
 isPassed tells.Cleared = false
 isPassed tells.NotYetClear = false
+
+abbrev isWaiting : Tells → Bool
+isWaiting (tells.Waiting n) = true
+isWaiting tells.WrongPhase = false
+isWaiting tells.Granted = false
+isWaiting tells.Full = false
+isWaiting tells.Withdrawn = false
+isWaiting tells.Released = false
+isWaiting tells.ClearingDue = false
+isWaiting tells.Cleared = false
+isWaiting tells.NotYetClear = false
+isWaiting tells.Passed = false
 
 abbrev isCleared : Tells → Bool
 isCleared tells.Cleared = true
@@ -216,37 +228,49 @@ module _ {n : ℕ} {s : State} {L : Ledger} (T : Tied n s L) where
       by true d d′ = refl
       by false d d′ = refl
 
+  -- what no open, no show and no release is told
+  module _ (f : Tells → Bool) where
+    open-never : (r m : ℕ) → isTold f (opened r m s .answer) ≡ false
+    unfolding opened
+    open-never r m =
+        either-by P (not (isRecord r (s .words))) (λ e. refl)
+        (λ e. either-by P (ltb 1 m) (λ g. refl) (λ g. either-by P (leb SLOTS (lowestFree (s .slots))) (λ h. refl) (λ h. refl)))
+      where
+        P : Done → Type 0
+        P d = isTold f (d .answer) ≡ false
+
+    show-never : (r : ℕ) → isTold f (shown r s .answer) ≡ false
+    unfolding shown shownOf
+    show-never r = either-by (λ (a : Answer). isTold f a ≡ false) (isRecord r (s .words)) (λ e. refl) (λ e. refl)
+
+    release-never : f tells.Released ≡ false → f tells.ClearingDue ≡ false → (i : ℕ) → isTold f (released i s .answer) ≡ false
+    unfolding released
+    release-never let-go due i = by (leb SLOTS i) refl
+      where
+        P : Done → Type 0
+        P d = isTold f (d .answer) ≡ false
+
+        at : (h : i < SLOTS) (g : Stage) → L .seats i .stage ≡ g → P (released i s)
+        at h Nobody e = subst P (sym (release-nobody s i h (keeps-at T i h Nobody e))) refl
+        at h Asks e = subst P (sym (release-asks s i h (L .seats i) (mine L i) (keeps-at T i h Asks e))) refl
+        at h Waits e = subst P (sym (release-waits s i h (L .seats i) (mine L i) (keeps-at T i h Waits e))) refl
+        at h Owes e = subst P (sym (release-owes s i h (L .seats i) (mine L i) (keeps-at T i h Owes e))) refl
+        at h Clears e = subst P (sym (release-clears s i h (L .seats i) (mine L i) (keeps-at T i h Clears e))) refl
+        at h Holds e =
+            let lent = lent-to T i Holds e refl in
+            subst P (sym (release-holds s i h (L .seats i) (mine L i) (omega (arith, T .words-long)) (omega (arith, T .most)) (keeps-at T i h Holds e)))
+            (either-by P (eqb (clearingFor (mine L i) (L .seats i .place)) 0) (λ z. let-go) (λ z. due))
+
+        by : (x : Bool) → leb SLOTS i ≡ x → P (released i s)
+        by true e = rw e refl
+        by false e = at (leb-false SLOTS i e) (L .seats i .stage) refl
+
   -- none is told that it has passed
-  release-never : (i : ℕ) → isTold isPassed (released i s .answer) ≡ false
-  unfolding released
-  release-never i = by (leb SLOTS i) refl
-    where
-      at : (h : i < SLOTS) (g : Stage) → L .seats i .stage ≡ g → isTold isPassed (released i s .answer) ≡ false
-      at h Nobody e = subst (λ (d : Done). isTold isPassed (d .answer) ≡ false) (sym (release-nobody s i h (keeps-at T i h Nobody e))) refl
-      at h Asks e = subst (λ (d : Done). isTold isPassed (d .answer) ≡ false) (sym (release-asks s i h (L .seats i) (mine L i) (keeps-at T i h Asks e))) refl
-      at h Waits e = subst (λ (d : Done). isTold isPassed (d .answer) ≡ false) (sym (release-waits s i h (L .seats i) (mine L i) (keeps-at T i h Waits e))) refl
-      at h Owes e = subst (λ (d : Done). isTold isPassed (d .answer) ≡ false) (sym (release-owes s i h (L .seats i) (mine L i) (keeps-at T i h Owes e))) refl
-      at h Clears e = subst (λ (d : Done). isTold isPassed (d .answer) ≡ false) (sym (release-clears s i h (L .seats i) (mine L i) (keeps-at T i h Clears e))) refl
-      at h Holds e =
-          let lent = lent-to T i Holds e refl in
-          subst (λ (d : Done). isTold isPassed (d .answer) ≡ false) (sym (release-holds s i h (L .seats i) (mine L i) (omega (arith, T .words-long)) (omega (arith, T .most)) (keeps-at T i h Holds e)))
-          (either-by (λ (d : Done). isTold isPassed (d .answer) ≡ false) (eqb (clearingFor (mine L i) (L .seats i .place)) 0) (λ z. refl) (λ z. refl))
-
-      by : (x : Bool) → leb SLOTS i ≡ x → isTold isPassed (released i s .answer) ≡ false
-      by true e = rw e refl
-      by false e = at (leb-false SLOTS i e) (L .seats i .stage) refl
-
   never-passed : (c : Call) → isTold isPassed (played c s .answer) ≡ false
-  unfolding opened shown shownOf
-  never-passed (Open r m) =
-      either-by P (not (isRecord r (s .words))) (λ e. refl)
-      (λ e. either-by P (ltb 1 m) (λ f. refl) (λ f. either-by P (leb SLOTS (lowestFree (s .slots))) (λ g. refl) (λ g. refl)))
-    where
-      P : Done → Type 0
-      P d = isTold isPassed (d .answer) ≡ false
+  never-passed (Open r m) = open-never isPassed r m
   never-passed (Step i) = step-never isPassed refl (λ m. refl) refl refl i (λ h e. ap (isTold isPassed) (clears-told i e) ∙ either-by (λ (a : Answer). isTold isPassed a ≡ false) (eqb (wordNow s L i) (wordAtRest (mine L i))) (λ z. refl) (λ z. refl))
-  never-passed (Release i) = release-never i
-  never-passed (Show r) = either-by (λ (a : Answer). isTold isPassed a ≡ false) (isRecord r (s .words)) (λ e. refl) (λ e. refl)
+  never-passed (Release i) = release-never isPassed refl refl i
+  never-passed (Show r) = show-never isPassed r
 
   none-passed : NonePassed (λ c. played c s .answer)
   none-passed c e = clash (isTold isPassed (played c s .answer)) (ap (isTold isPassed) e) (never-passed c)
@@ -392,7 +416,10 @@ module _ {n : ℕ} {s : State} {L : Ledger} (T : Tied n s L) where
       by Clears e = ⊎-elim (λ q. let z : _≡_ {A = ℕ} 0 1 = cc in absurd (omega arith)) (λ q. let z : _≡_ {A = ℕ} 0 1 = cc in absurd (omega arith)) (other Clears e)
 
   told-how-many : ToldHowMany L (λ c. played c s .answer)
-  told-how-many i m told = told-ahead i m told .0
+  told-how-many (Step i) m told = (i, refl, told-ahead i m told .0)
+  told-how-many (Open r k) m told = clash (isTold isWaiting (opened r k s .answer)) (ap (isTold isWaiting) told) (open-never isWaiting r k)
+  told-how-many (Release i) m told = clash (isTold isWaiting (released i s .answer)) (ap (isTold isWaiting) told) (release-never isWaiting refl refl i)
+  told-how-many (Show r) m told = clash (isTold isWaiting (shown r s .answer)) (ap (isTold isWaiting) told) (show-never isWaiting r)
 
   -- never so many that eight bytes would not hold it
   pub told-few : (i m : ℕ) → played (Step i) s .answer ≡ Told (tells.Waiting m) → m ≤ 65536
@@ -421,3 +448,6 @@ module _ {n : ℕ} {s : State} {L : Ledger} (T : Tied n s L) where
 
 pub demand-3 : Demand3
 demand-3 n some most ms = demand (tied n some most ms)
+
+pub none-to-wait-for : NoneToWaitFor
+none-to-wait-for l k i h = (ahead-earlier k l i h, earlier-ahead k l i)

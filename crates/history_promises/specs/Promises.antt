@@ -1,4 +1,5 @@
--- Demand 3 of docs/RULES.md, section 11: first that the ledger is read rightly, then D3.1 to D3.8 in order, then all of it as one.
+-- Demand 3 of docs/RULES.md, section 11: first that the ledger is read rightly, then D3.1 to D3.8 in order, then all of it as one. D3.8 was
+-- asked for beside the demand.
 -- Statements only: proofs/ has why each holds.
 use Prim.Native.Nat.{ℕ, suc, _+_, _<_, _≤_}
 use mathlib.Core.Path.{_≡_}
@@ -18,7 +19,7 @@ use Rattle.agent_rules.specs.declared.Answer.the-variants.{Granted, Waiting, Fu
 use Rattle.board_rules.specs.declared.Answer.{Answer}
 use Rattle.board_rules.specs.declared.Answer.the-variants.{Refused, Begun, Opened, Told}
 use Rattle.board_rules.specs.Board.{State, stateOf, begun}
-use Rattle.history_promises.specs.Tickets.{Given, ticketAt, givenOf, releasedOf, EarlierReleased, AllReleased}
+use Rattle.history_promises.specs.Tickets.{Given, ticketAt, givenOf, releasedOf, EarlierReleased, unreleasedBefore, AllReleased}
 use Rattle.history_promises.specs.Ledger.{Ledger, Stage, mine, waitsFor, owed, notedCall}
 use Rattle.history_promises.specs.Ledger.Stage.{Nobody, Asks, Waits, Holds, Owes, Clears}
 use Rattle.history_promises.specs.History.{Move, fresh, ledgerAfter, boardAfter, answerAfter}
@@ -175,11 +176,19 @@ ClearedThen L says =
 abbrev pub CountersStaySmall : ℕ → State → Type 0
 CountersStaySmall n s = (r : ℕ) (k : Counter) → r < n → heldBy k (getD (s .words) r 0) ≤ 33023
 
--- Demand D3.8: Whoever is told to wait, reader or writer, is told the number of tickets that it waits for: the earlier ones of its record
--- that conflict with its own and are not yet released. They are counted in the ledger with this answer noted: there a slot that asked has
--- its ticket, drawn by this very step, and one that waited has the ticket that it had.
+-- Demand D3.8: Whoever is told to wait, reader or writer, is a slot that steps, and is told the number of tickets that it waits for: the
+-- earlier ones of its record that conflict with its own and are not yet released. They are counted in the ledger with this answer noted:
+-- there a slot that asked has its ticket, drawn by this very step, and one that waited has the ticket that it had.
 abbrev pub ToldHowMany : Ledger → (Call → Answer) → Type 0
-ToldHowMany L says = (i m : ℕ) → says (Step i) ≡ Told (Waiting m) → m ≡ waitsFor (notedCall (Step i) (Told (Waiting m)) L) i
+ToldHowMany L says =
+    (c : Call) (m : ℕ) →
+    says c ≡ Told (Waiting m) →
+    (i : ℕ) × (c ≡ Step i) × (m ≡ waitsFor (notedCall c (Told (Waiting m)) L) i)
+
+-- There is none to wait for exactly when every earlier conflicting ticket has been released. So D3.2, D3.3 and D3.8 speak of the same tickets,
+-- and nobody is told to wait for 0.
+abbrev pub NoneToWaitFor : Type 0
+NoneToWaitFor = (l : List Given) (k : Mode) (i : ℕ) → i ≤ length l → (unreleasedBefore l k i ≡ 0) ↔ EarlierReleased l k i
 
 -- All of demand 3, of n words, a ledger, a board, and what it answers next: the fields up to `words-are-counted` say what the ledger is
 -- read as, the others are D3.1 to D3.8 of docs/RULES.md in order, and `cleared-then`, beside D3.6, is not asked for.

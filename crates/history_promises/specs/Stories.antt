@@ -1,8 +1,9 @@
 -- Four histories on a board of one word, with every answer. Each claim is computed on the definitions.
 use Prim.Native.Nat.{ℕ}
 use mathlib.Core.Path.{_≡_}
-use mathlib.Core.Bool.{true, false}
+use mathlib.Core.Bool.{Bool, true, false, _&&_}
 use mathlib.Core.List.{List, [], _∷_, _++_, map}
+use lib.Dec.{eqb}
 use lib.ListN.{getD}
 use Rattle.agent_ticket.specs.declared.Mode.{Mode}
 use Rattle.agent_ticket.specs.declared.Mode.the-variants.{Reader, Writer}
@@ -88,7 +89,7 @@ ReaderStaysBehindWriter =
     Told Released ∷ Told (Waiting 1) ∷
     Told Granted ∷ Told Released ∷ Told Granted ∷ []
 
--- Readers and writers in turn, none released: a writer (slot 0) holds, three readers wait, then a writer, then a reader.
+-- Readers and writers mixed, none released: a writer (slot 0) holds, three readers wait, then a writer, then a reader.
 abbrev pub sixAsk : List Move
 sixAsk =
     opensWriter ∷ steps 0 ∷
@@ -98,7 +99,8 @@ sixAsk =
     opensWriter ∷ steps 4 ∷
     opensReader ∷ steps 5 ∷ []
 
--- Behind a writer and two readers a reader (slot 3) is told 1, behind two writers (slot 5) 2, and a writer behind both kinds (slot 4) all 4.
+-- Behind a writer and two readers a reader (slot 3) is told 1; behind two writers, and three readers, one (slot 5) is told 2; a writer behind
+-- both kinds (slot 4) is told all 4.
 abbrev pub EachIsToldHowMany : Type 0
 EachIsToldHowMany =
     answers sixAsk ≡
@@ -116,20 +118,23 @@ sixKinds = Writer ∷ Reader ∷ Reader ∷ Reader ∷ Writer ∷ Reader ∷ []
 abbrev sixSlots : List ℕ
 sixSlots = 0 ∷ 1 ∷ 2 ∷ 3 ∷ 4 ∷ 5 ∷ []
 
-abbrev sixTickets : List Given
-sixTickets = map (λ (i : ℕ). record { kind = getD sixKinds i Reader; slot = i; released = false }) sixSlots
+abbrev six : Bool → List Given
+six first = map (λ (i : ℕ). record { kind = getD sixKinds i Reader; slot = i; released = eqb i 0 && first }) sixSlots
 
 abbrev sixSeat : Stage → ℕ → Seat
 sixSeat g i = record { stage = g; about = 0; kind = getD sixKinds i Reader; place = i }
 
 abbrev pub SixInTheLedger : Type 0
 SixInTheLedger =
-    (ledgerAfter 1 sixAsk .tickets 0 ≡ sixTickets) ×
+    (ledgerAfter 1 sixAsk .tickets 0 ≡ six false) ×
     (map (ledgerAfter 1 sixAsk .seats) sixSlots ≡ sixSeat Holds 0 ∷ map (sixSeat Waits) (1 ∷ 2 ∷ 3 ∷ 4 ∷ 5 ∷ []))
 
--- In such a ledger each slot waits for as many as it was told.
+-- With these tickets and places (`waitsFor` looks at no stage) each waits for as many as it was told, and slot 0, which was granted, for none;
+-- once slot 0 has released, each for one fewer.
 abbrev pub EachWaitsFor : Type 0
-EachWaitsFor = map (waitsFor (record { tickets = λ r. sixTickets; seats = sixSeat Waits })) sixSlots ≡ 0 ∷ 1 ∷ 1 ∷ 1 ∷ 4 ∷ 2 ∷ []
+EachWaitsFor =
+    map (λ (first : Bool). map (waitsFor (record { tickets = λ r. six first; seats = sixSeat Waits })) sixSlots) (false ∷ true ∷ []) ≡
+    (0 ∷ 1 ∷ 1 ∷ 1 ∷ 4 ∷ 2 ∷ []) ∷ (0 ∷ 0 ∷ 0 ∷ 0 ∷ 3 ∷ 1 ∷ []) ∷ []
 
 -- How they go on. The last reader's number falls with each release of a writer, and with no reader's; the second writer's falls with each.
 abbrev pub NumbersFallWithReleases : Type 0

@@ -154,20 +154,23 @@ module _ {n : ℕ} (some : 1 ≤ n) (most : n ≤ 4096) {s : State} {calls : Lis
   holds k = demand-3 n some most (asMoves (take k calls))
 
   how-many :
-      (k i : ℕ) → k < length calls → nthCall calls k ≡ Step i → outcomeIn (nthEntry entries k) ≡ 3 →
-      valueIn (nthEntry entries k) ≡ waitsFor (ledgerAfter n (asMoves (take (suc k) calls))) i
-  how-many k i h c three =
-      let says = answerAfter n (asMoves (take k calls)) in
-      let said : nthEntry entries k ≡ entryOf (saidOf (Step i) (says (Step i))) = rw c at (told k h) in
-      let waits = says-waiting _ (says (Step i)) (outcome-byte _ ∙ ap outcomeIn (sym said) ∙ three) in
-      let next : ledgerAfter n (asMoves (take (suc k) calls)) ≡ notedCall (Step i) (says (Step i)) (ledgerAfter n (asMoves (take k calls))) =
-      rw c at (read-next (fresh n) blank calls k h) in
-      let few = told-few (tied n some most (asMoves (take k calls))) i (waits .0) (waits .1) in
-      ap valueIn (said ∙ ap (λ (a : Answer). entryOf (saidOf (Step i) a)) (waits .1)) ∙
-      entry-reads-back (saidOf (Step i) (Told (Waiting (waits .0)))) (omega arith) .value ∙
-      holds k .told-how-many i (waits .0) (waits .1) ∙
-      ap (λ (a : Answer). waitsFor (notedCall (Step i) a (ledgerAfter n (asMoves (take k calls)))) i) (sym (waits .1)) ∙
-      ap (λ (L : Ledger). waitsFor L i) (sym next)
+      (k : ℕ) → k < length calls → outcomeIn (nthEntry entries k) ≡ 3 →
+      (i : ℕ) × (nthCall calls k ≡ Step i) × (valueIn (nthEntry entries k) ≡ waitsFor (ledgerAfter n (asMoves (take (suc k) calls))) i)
+  how-many k h three =
+      let c = nthCall calls k in
+      let here = asMoves (take k calls) in
+      let waits = says-waiting _ (answerAfter n here c) (outcome-byte _ ∙ ap outcomeIn (sym (told k h)) ∙ three) in
+      let m = waits .0 in
+      let who = holds k .told-how-many c m (waits .1) in
+      let few = told-few (tied n some most here) (who .0) m (ap (answerAfter n here) (sym (who .1)) ∙ waits .1) in (
+        who .0,
+        who .1,
+        ap valueIn (told k h ∙ ap (λ (a : Answer). entryOf (saidOf c a)) (waits .1)) ∙
+            entry-reads-back (saidOf c (Told (Waiting m))) (omega arith) .value ∙
+            who .2 ∙
+            ap (λ (a : Answer). waitsFor (notedCall c a (ledgerAfter n here)) (who .0)) (sym (waits .1)) ∙
+            ap (λ (L : Ledger). waitsFor L (who .0)) (sym (read-next (fresh n) blank calls k h)),
+      )
 
 pub reports-are-of-histories : ReportsAreOfHistories
 reports-are-of-histories n some most s calls entries runs =

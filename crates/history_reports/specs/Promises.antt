@@ -36,8 +36,8 @@ valueIn e =
     getD e 8 0 * 2 ^ 32 + getD e 9 0 * 2 ^ 40 + getD e 10 0 * 2 ^ 48 + getD e 11 0 * 2 ^ 56
 
 -- The entries are those of a sequence of calls on the fresh board, and the board is the one that these calls leave. The k-th 12 bytes tell the
--- answer to the k-th call after the k calls before it, and there demand 3 holds. D3.8 in bytes: where the outcome of a step is 3, waiting,
--- the value is the number of tickets that its slot waits for after that call.
+-- answer to the k-th call after the k calls before it, and there demand 3 holds. D3.8 in bytes: where the outcome is 3, waiting, the call
+-- steps a slot, and the value is the number of tickets that this slot then waits for.
 pub record OfAHistory (n : ℕ) (s : State) (calls : List Call) (entries : List ℕ) : Type 0 where
   pub board : s ≡ boardAfter n (asMoves calls)
   pub reported : entries ≡ entriesFrom (fresh n) calls
@@ -49,11 +49,10 @@ pub record OfAHistory (n : ℕ) (s : State) (calls : List Call) (entries : List 
       (k : ℕ) →
       Demand n (ledgerAfter n (asMoves (take k calls))) (boardAfter n (asMoves (take k calls))) (answerAfter n (asMoves (take k calls)))
   pub told-how-many :
-      (k i : ℕ) →
+      (k : ℕ) →
       k < length calls →
-      nthCall calls k ≡ Step i →
       outcomeIn (nthEntry entries k) ≡ 3 →
-      valueIn (nthEntry entries k) ≡ waitsFor (ledgerAfter n (asMoves (take (suc k) calls))) i
+      (i : ℕ) × (nthCall calls k ≡ Step i) × (valueIn (nthEntry entries k) ≡ waitsFor (ledgerAfter n (asMoves (take (suc k) calls))) i)
 
 -- Whatever is played by runs on a fresh board, in however many pieces.
 abbrev pub ReportsAreOfHistories : Type 0
