@@ -4,8 +4,8 @@ use crate::player::MOST_INPUT_BYTES;
 use crate::random::{plans, Damage};
 use crate::run::{BODY_CUT_SHORT, UNKNOWN_KIND};
 use crate::script::{
-    granted, open, opened, refused, release, released, show, shown, step, waiting, Line, Script,
-    READER, WRITER,
+    asks, granted, open, opened, refused, release, released, show, shown, step, waiting, Line,
+    Script, READER, WRITER,
 };
 
 /// A schedule under a name that says what it shows.
@@ -169,38 +169,39 @@ fn later_reader() -> Script {
 
 /// The writer stands first. Each reader waits for it and for no other reader.
 fn reader_behind_a_writer_and_two_readers() -> Script {
-    Script::of([
-        open(0, WRITER).gives(opened(0)),
-        step(0).gives(granted(0)),
-        open(0, READER).gives(opened(1)),
-        step(1).gives(waiting(1, 1)),
-        open(0, READER).gives(opened(2)),
-        step(2).gives(waiting(2, 1)),
-        open(0, READER).gives(opened(3)),
-        step(3).gives(waiting(3, 1)),
+    let mut lines = [
+        asks(0, WRITER, granted(0)),
+        asks(0, READER, waiting(1, 1)),
+        asks(0, READER, waiting(2, 1)),
+        asks(0, READER, waiting(3, 1)),
+    ]
+    .concat();
+    lines.extend([
         step(3).gives(waiting(3, 1)),
         show(0).gives(shown(0, 0, 1, 3)),
         release(0).gives(released(0)),
         step(3).gives(granted(3)),
-    ])
+    ]);
+    Script::of(lines)
 }
 
 /// Both writers count, the one that holds and the one that waits.
 fn reader_behind_two_writers() -> Script {
-    Script::of([
-        open(0, WRITER).gives(opened(0)),
-        step(0).gives(granted(0)),
-        open(0, WRITER).gives(opened(1)),
-        step(1).gives(waiting(1, 1)),
-        open(0, READER).gives(opened(2)),
-        step(2).gives(waiting(2, 2)),
+    let mut lines = [
+        asks(0, WRITER, granted(0)),
+        asks(0, WRITER, waiting(1, 1)),
+        asks(0, READER, waiting(2, 2)),
+    ]
+    .concat();
+    lines.extend([
         step(2).gives(waiting(2, 2)),
         release(0).gives(released(0)),
         step(2).gives(waiting(2, 1)),
         step(1).gives(granted(1)),
         release(1).gives(released(1)),
         step(2).gives(granted(2)),
-    ])
+    ]);
+    Script::of(lines)
 }
 
 /// A ticket is drawn with the first step, so the writer's is before that of the second reader.
@@ -217,19 +218,16 @@ fn reader_opened_before_a_writer() -> Script {
 
 /// Tickets: two readers that hold, a writer, a reader, a writer, and the reader that looks again and again.
 fn number_of_a_reader_falls() -> Script {
-    Script::of([
-        open(4, READER).gives(opened(0)),
-        step(0).gives(granted(0)),
-        open(4, READER).gives(opened(1)),
-        step(1).gives(granted(1)),
-        open(4, WRITER).gives(opened(2)),
-        step(2).gives(waiting(2, 2)),
-        open(4, READER).gives(opened(3)),
-        step(3).gives(waiting(3, 1)),
-        open(4, WRITER).gives(opened(4)),
-        step(4).gives(waiting(4, 4)),
-        open(4, READER).gives(opened(5)),
-        step(5).gives(waiting(5, 2)),
+    let mut lines = [
+        asks(4, READER, granted(0)),
+        asks(4, READER, granted(1)),
+        asks(4, WRITER, waiting(2, 2)),
+        asks(4, READER, waiting(3, 1)),
+        asks(4, WRITER, waiting(4, 4)),
+        asks(4, READER, waiting(5, 2)),
+    ]
+    .concat();
+    lines.extend([
         // The two readers release.
         release(1).gives(released(1)),
         step(5).gives(waiting(5, 2)),
@@ -251,24 +249,22 @@ fn number_of_a_reader_falls() -> Script {
         release(4).gives(released(4)),
         step(5).gives(granted(5)),
         show(4).gives(shown(2, 3, 2, 4)),
-    ])
+    ]);
+    Script::of(lines)
 }
 
 /// Tickets: a writer that holds, two readers, a writer, a reader, and the writer that looks again and again.
 fn number_of_a_writer_falls() -> Script {
-    Script::of([
-        open(6, WRITER).gives(opened(0)),
-        step(0).gives(granted(0)),
-        open(6, READER).gives(opened(1)),
-        step(1).gives(waiting(1, 1)),
-        open(6, READER).gives(opened(2)),
-        step(2).gives(waiting(2, 1)),
-        open(6, WRITER).gives(opened(3)),
-        step(3).gives(waiting(3, 3)),
-        open(6, READER).gives(opened(4)),
-        step(4).gives(waiting(4, 2)),
-        open(6, WRITER).gives(opened(5)),
-        step(5).gives(waiting(5, 5)),
+    let mut lines = [
+        asks(6, WRITER, granted(0)),
+        asks(6, READER, waiting(1, 1)),
+        asks(6, READER, waiting(2, 1)),
+        asks(6, WRITER, waiting(3, 3)),
+        asks(6, READER, waiting(4, 2)),
+        asks(6, WRITER, waiting(5, 5)),
+    ]
+    .concat();
+    lines.extend([
         // The first writer releases.
         release(0).gives(released(0)),
         step(5).gives(waiting(5, 4)),
@@ -291,7 +287,8 @@ fn number_of_a_writer_falls() -> Script {
         release(4).gives(released(4)),
         step(5).gives(granted(5)),
         show(6).gives(shown(2, 3, 3, 3)),
-    ])
+    ]);
+    Script::of(lines)
 }
 
 /// Those who wait look again while further requests are opened and draw their tickets.

@@ -97,6 +97,14 @@ pub struct Line {
     pub entry: Entry,
 }
 
+/// A request is opened in the slot of the entry, and its first step gives this entry.
+pub fn asks(record: u16, mode: u8, told: Entry) -> [Line; 2] {
+    [
+        open(record, mode).gives(opened(told.slot)),
+        step(told.slot).gives(told),
+    ]
+}
+
 /// Calls in order, then bytes that are no whole record, then the ending of the whole.
 #[derive(Clone, Default)]
 pub struct Script {

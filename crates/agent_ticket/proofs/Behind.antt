@@ -1,4 +1,5 @@
--- What the turn test tells whoever is behind so many tickets.
+-- What the turn test tells whoever is behind so many tickets: no released number is past the ticket, so it is not passed; all are reached
+-- exactly where nothing is missing, and else the differences are what is missing.
 -- Assumes nothing.
 use Prim.Native.Nat.{ℕ, zero, suc, _+_, _-_}
 use mathlib.Core.Path.{_≡_, refl, ap}

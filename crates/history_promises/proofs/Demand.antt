@@ -15,6 +15,7 @@ use Rattle.common.specs.Choice.{if_then_else_}
 use Rattle.common.proofs.Choices.{either-by, same-or-not}
 use Rattle.agent_ticket.specs.declared.Mode.{Mode}
 use Rattle.agent_ticket.specs.declared.Mode.the-variants.{Reader, Writer}
+use Rattle.agent_rules.specs.Answers.{numbersOf}
 use Rattle.agent_rules.specs.declared.Answer.{Answer as Tells}
 use Rattle.agent_rules.specs.declared.Answer.the-variants as tells
 use Rattle.board_slots.specs.Slots.{SLOTS, lowestFree}
@@ -50,41 +51,17 @@ isTold f Begun = false
 isTold f (Opened k) = false
 isTold f (Shown w) = false
 
-abbrev isPassed : Tells → Bool
-isPassed tells.Passed = true
-isPassed tells.WrongPhase = false
-isPassed tells.Granted = false
-isPassed (tells.Waiting n) = false
-isPassed tells.Full = false
-isPassed tells.Withdrawn = false
-isPassed tells.Released = false
-isPassed tells.ClearingDue = false
-isPassed tells.Cleared = false
-isPassed tells.NotYetClear = false
+abbrev outcomeIs : ℕ → Tells → Bool
+outcomeIs o a = eqb (numbersOf a .outcome) o
 
 abbrev isWaiting : Tells → Bool
-isWaiting (tells.Waiting n) = true
-isWaiting tells.WrongPhase = false
-isWaiting tells.Granted = false
-isWaiting tells.Full = false
-isWaiting tells.Withdrawn = false
-isWaiting tells.Released = false
-isWaiting tells.ClearingDue = false
-isWaiting tells.Cleared = false
-isWaiting tells.NotYetClear = false
-isWaiting tells.Passed = false
+isWaiting = outcomeIs 3
 
 abbrev isCleared : Tells → Bool
-isCleared tells.Cleared = true
-isCleared tells.WrongPhase = false
-isCleared tells.Granted = false
-isCleared (tells.Waiting n) = false
-isCleared tells.Full = false
-isCleared tells.Withdrawn = false
-isCleared tells.Released = false
-isCleared tells.ClearingDue = false
-isCleared tells.NotYetClear = false
-isCleared tells.Passed = false
+isCleared = outcomeIs 8
+
+abbrev isPassed : Tells → Bool
+isPassed = outcomeIs 11
 
 module _ {n : ℕ} {s : State} {L : Ledger} (T : Tied n s L) where
   writer-conflicts : (k : Mode) → conflicts Writer k ≡ true
@@ -378,6 +355,9 @@ module _ {n : ℕ} {s : State} {L : Ledger} (T : Tied n s L) where
       other : (g : Stage) → L .seats i .stage ≡ g → StepTells g (Told (tells.Waiting m))
       other g e = subst (StepTells g) told (subst (λ (h : Stage). StepTells h (stepped i s .answer)) e (told-by-stage T i .0))
 
+      not-this : {X : Type 0} (a : Answer) → Told (tells.Waiting m) ≡ a → isTold isWaiting a ≡ false → X
+      not-this a q e = clash (isTold isWaiting a) (ap (isTold isWaiting) (sym q)) e
+
       drawn-waits : waitsFor (drawn i Waits L) i ≡ aheadNow (L .seats i .kind) (longer i) (length (mine L i))
       drawn-waits =
           seat-waits (ticketsNow L (L .seats i .about) (longer i)) i _ ∙
@@ -404,16 +384,16 @@ module _ {n : ℕ} {s : State} {L : Ledger} (T : Tied n s L) where
       by Asks e =
           subst P (sym e)
           (⊎-elim
-          (λ top. let q = sym (asks-full i e top) ∙ told in let z : _≡_ {A = ℕ} 0 1 = cc in absurd (omega arith))
+          (λ top. not-this _ (sym told ∙ asks-full i e top) refl)
           (λ low. let q = asked e low in (q ∙ sym drawn-waits, omega (arith, few Asks e refl (length (mine L i)), asks-same i)))
           (true-or-false (topped (mine L i))))
       by Waits e =
           let q = waited e in
           subst P (sym e) (q ∙ sym (seat-waits L i (staged Waits (L .seats i))), omega (arith, few Waits e refl (L .seats i .place)))
-      by Nobody e = ⊎-elim (λ q. let z : _≡_ {A = ℕ} 0 1 = cc in absurd (omega arith)) (λ q. let z : _≡_ {A = ℕ} 0 1 = cc in absurd (omega arith)) (other Nobody e)
-      by Holds e = let q = other Holds e in let z : _≡_ {A = ℕ} 0 1 = cc in absurd (omega arith)
-      by Owes e = let q = other Owes e in let z : _≡_ {A = ℕ} 0 1 = cc in absurd (omega arith)
-      by Clears e = ⊎-elim (λ q. let z : _≡_ {A = ℕ} 0 1 = cc in absurd (omega arith)) (λ q. let z : _≡_ {A = ℕ} 0 1 = cc in absurd (omega arith)) (other Clears e)
+      by Nobody e = ⊎-elim (λ q. not-this _ q refl) (λ q. not-this _ q refl) (other Nobody e)
+      by Holds e = not-this _ (other Holds e) refl
+      by Owes e = not-this _ (other Owes e) refl
+      by Clears e = ⊎-elim (λ q. not-this _ q refl) (λ q. not-this _ q refl) (other Clears e)
 
   told-how-many : ToldHowMany L (λ c. played c s .answer)
   told-how-many (Step i) m told = (i, refl, told-ahead i m told .0)

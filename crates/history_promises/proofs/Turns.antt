@@ -1,4 +1,5 @@
--- The turn test on a record in order: never passed, and behind as many tickets as are earlier, conflict and have not been released.
+-- The turn test on a record in order: never passed, and behind as many tickets as are earlier, conflict and have not been released. For what
+-- is released of a kind that conflicts is all earlier (`before-open`), so what was drawn before, less what is released, is what is left.
 -- Assumes nothing.
 use Prim.Native.Nat.{ℕ, _+_, _<_, _≤_}
 use mathlib.Core.Path.{_≡_, refl, ap, sym, _∙_}

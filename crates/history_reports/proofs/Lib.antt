@@ -1,1 +1,2 @@
+pub mod Ahead
 pub mod Reports

@@ -16,6 +16,7 @@ use Rattle.board_rules.specs.declared.Answer.{Answer}
 use Rattle.board_rules.specs.declared.Answer.the-variants.{Refused, Begun, Opened, Told, Shown}
 use Rattle.board_rules.specs.Board.{State, stateOf, played}
 use Rattle.run_entry.specs.Entry.{ENTRY, entryOf}
+use Rattle.run_entry.specs.Promises.{outcomeIn, valueIn}
 use Rattle.run_entry.proofs.ReadsBack.{entry-reads-back}
 use Rattle.schedule_bytes.specs.Schedule.{callsFrom}
 use Rattle.run_rules.specs.Run.{runOf}
@@ -30,7 +31,7 @@ use Rattle.history_promises.specs.History.Move.{Do}
 use Rattle.history_promises.proofs.Kept.{tied}
 use Rattle.history_promises.proofs.Demand.{told-few, demand-3}
 use Rattle.history_reports.specs.Reports.{Runs, noRun, oneMore}
-use Rattle.history_reports.specs.Promises.{asMoves, nthCall, nthEntry, outcomeIn, valueIn, ReportsAreOfHistories}
+use Rattle.history_reports.specs.Promises.{asMoves, nthCall, nthEntry, waitsAfter, ReportsAreOfHistories}
 
 -- the entry of each call
 entry-at :
@@ -155,7 +156,7 @@ module _ {n : ℕ} (some : 1 ≤ n) (most : n ≤ 4096) {s : State} {calls : Lis
 
   how-many :
       (k : ℕ) → k < length calls → outcomeIn (nthEntry entries k) ≡ 3 →
-      (i : ℕ) × (nthCall calls k ≡ Step i) × (valueIn (nthEntry entries k) ≡ waitsFor (ledgerAfter n (asMoves (take (suc k) calls))) i)
+      (i : ℕ) × (nthCall calls k ≡ Step i) × (valueIn (nthEntry entries k) ≡ waitsAfter n calls k i)
   how-many k h three =
       let c = nthCall calls k in
       let here = asMoves (take k calls) in

@@ -1,13 +1,14 @@
 -- What is promised of reports. A statement only: proofs/ has why it holds.
-use Prim.Native.Nat.{ℕ, suc, _+_, _*_, _<_, _≤_, _^_}
+use Prim.Native.Nat.{ℕ, suc, _*_, _<_, _≤_}
 use mathlib.Core.Path.{_≡_}
-use mathlib.Core.List.{List, map}
+use mathlib.Core.List.{List, [], _∷_, map}
 use lib.ListN.{length, getD, take, drop}
 use Rattle.board_call.specs.declared.Call.{Call}
-use Rattle.board_call.specs.declared.Call.the-variants.{Step, Show}
+use Rattle.board_call.specs.declared.Call.the-variants.{Open, Step, Show}
 use Rattle.board_rules.specs.Answers.{saidOf}
 use Rattle.board_rules.specs.Board.{State}
 use Rattle.run_entry.specs.Entry.{ENTRY, entryOf}
+use Rattle.run_entry.specs.Promises.{outcomeIn, valueIn}
 use Rattle.history_promises.specs.Ledger.{waitsFor}
 use Rattle.history_promises.specs.History.{Move, fresh, boardAfter, ledgerAfter, answerAfter}
 use Rattle.history_promises.specs.History.Move.{Do}
@@ -21,19 +22,13 @@ asMoves cs = map (λ (c : Call). Do c) cs
 abbrev pub nthCall : List Call → ℕ → Call
 nthCall cs k = getD cs k (Show 0)
 
--- The k-th 12 bytes,
+-- The k-th 12 bytes.
 abbrev pub nthEntry : List ℕ → ℕ → List ℕ
 nthEntry entries k = take ENTRY (drop (ENTRY * k) entries)
 
--- the outcome in such bytes,
-abbrev pub outcomeIn : List ℕ → ℕ
-outcomeIn e = getD e 1 0
-
--- and the value: the last 8, low first.
-abbrev pub valueIn : List ℕ → ℕ
-valueIn e =
-    getD e 4 0 + getD e 5 0 * 2 ^ 8 + getD e 6 0 * 2 ^ 16 + getD e 7 0 * 2 ^ 24 +
-    getD e 8 0 * 2 ^ 32 + getD e 9 0 * 2 ^ 40 + getD e 10 0 * 2 ^ 48 + getD e 11 0 * 2 ^ 56
+-- How many tickets the slot i waits for right after the k-th call.
+abbrev pub waitsAfter : ℕ → List Call → ℕ → ℕ → ℕ
+waitsAfter n calls k i = waitsFor (ledgerAfter n (asMoves (take (suc k) calls))) i
 
 -- The entries are those of a sequence of calls on the fresh board, and the board is the one that these calls leave. The k-th 12 bytes tell the
 -- answer to the k-th call after the k calls before it, and there demand 3 holds. D3.8 in bytes: where the outcome is 3, waiting, the call
@@ -52,7 +47,14 @@ pub record OfAHistory (n : ℕ) (s : State) (calls : List Call) (entries : List 
       (k : ℕ) →
       k < length calls →
       outcomeIn (nthEntry entries k) ≡ 3 →
-      (i : ℕ) × (nthCall calls k ≡ Step i) × (valueIn (nthEntry entries k) ≡ waitsFor (ledgerAfter n (asMoves (take (suc k) calls))) i)
+      (i : ℕ) × (nthCall calls k ≡ Step i) × (valueIn (nthEntry entries k) ≡ waitsAfter n calls k i)
+
+-- A writer asks and holds, a reader asks behind it. The reader's step, the last call, is told 1, and 1 is what its slot then waits for.
+abbrev behindAWriter : List Call
+behindAWriter = Open 0 1 ∷ Step 0 ∷ Open 0 0 ∷ Step 1 ∷ []
+
+abbrev pub ReaderIsTold1 : Type 0
+ReaderIsTold1 = (valueIn (nthEntry (entriesFrom (fresh 1) behindAWriter) 3) ≡ 1) × (waitsAfter 1 behindAWriter 3 1 ≡ 1)
 
 -- Whatever is played by runs on a fresh board, in however many pieces.
 abbrev pub ReportsAreOfHistories : Type 0
