@@ -6,9 +6,9 @@
  * sends the verb to the record's lock word, and chooses when to try again.
  *
  * What requests do to each other is proved of a board that plays whole calls, one after the other: a call sends its verb and takes the
- * result before the next call begins. There a writer is alone and no ticket passes, with at most 256 requests in use at a time on all
- * words together, at most 4,096 words, every word 0 at first and touched by these verbs alone. An agent that sends now and takes the
- * result later, while others send, is not what that theorem speaks of.
+ * result before the next call begins. There a writer is alone, no ticket passes, and whoever waits is told for how many tickets, with at
+ * most 256 requests in use at a time on all words together, at most 4,096 words, every word 0 at first and touched by these verbs alone.
+ * An agent that sends now and takes the result later, while others send, is not what that theorem speaks of.
  *
  * The whole life of a request. SEND, PAUSE and FAIL are yours: SEND sends a verb to the record's word, once, and gives the word as it
  * was before; FAIL does not return.
@@ -51,9 +51,9 @@
  *   - The order of memory: nothing of the record is read or written before the result that granted it has come, and everything read
  *     or written is complete before the release is sent. With C11 atomics: acquire on the verbs of a step, release on that of a release.
  *
- * A process that dies while it holds or waits blocks its record: whoever conflicts with it behind it, and whoever conflicts with these
- * in turn, is told waiting, with a number that stops falling. One that dies owing or clearing leaves the record full. A waiting request
- * cannot give up, since others count on its release.
+ * A process that dies while it holds or waits blocks its record: a writer blocks everybody behind it, a reader the writers behind it and
+ * everybody behind the first of these. They are told waiting, with a number that stops falling. One that dies owing or clearing leaves
+ * the record full. A waiting request cannot give up, since others count on its release.
  *
  * docs/AGENT.md has all of this at length, with RDMA and with what an operator can do; examples/c/first.c is the loop as a program, and
  * examples/c/agent.c a whole agent.
@@ -134,7 +134,7 @@ typedef struct brancove_verb {
 typedef struct brancove_told {
     uint8_t number;
     uint8_t outcome;
-    /* where the outcome is to wait: how many earlier tickets it waits for, a reader for writers, a writer for both; else 0 */
+    /* where the outcome is to wait: how many earlier tickets it waits for, a reader for writers, a writer for both kinds; else 0 */
     uint64_t ahead;
 } brancove_told;
 

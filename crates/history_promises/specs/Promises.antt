@@ -185,8 +185,8 @@ ToldHowMany L says =
     says c ≡ Told (Waiting m) →
     (i : ℕ) × (c ≡ Step i) × (m ≡ waitsFor (notedCall c (Told (Waiting m)) L) i)
 
--- There is none to wait for exactly when every earlier conflicting ticket has been released. So D3.2, D3.3 and D3.8 speak of the same tickets,
--- and nobody is told to wait for 0.
+-- There is none to wait for exactly when every earlier conflicting ticket has been released. So D3.2, D3.3 and D3.8 speak of the same
+-- tickets, and from the three it follows that nobody is told to wait for 0.
 abbrev pub NoneToWaitFor : Type 0
 NoneToWaitFor = (l : List Given) (k : Mode) (i : ℕ) → i ≤ length l → (unreleasedBefore l k i ≡ 0) ↔ EarlierReleased l k i
 

@@ -130,7 +130,7 @@ SixInTheLedger =
     (map (ledgerAfter 1 sixAsk .seats) sixSlots ≡ sixSeat Holds 0 ∷ map (sixSeat Waits) (1 ∷ 2 ∷ 3 ∷ 4 ∷ 5 ∷ []))
 
 -- With these tickets and places (`waitsFor` looks at no stage) each waits for as many as it was told, and slot 0, which was granted, for none;
--- once slot 0 has released, each for one fewer.
+-- and with the first ticket released, which is not read off a history here, each that waits for one fewer.
 abbrev pub EachWaitsFor : Type 0
 EachWaitsFor =
     map (λ (first : Bool). map (waitsFor (record { tickets = λ r. six first; seats = sixSeat Waits })) sixSlots) (false ∷ true ∷ []) ≡

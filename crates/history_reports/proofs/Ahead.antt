@@ -1,4 +1,4 @@
--- The entry of a reader behind a writer, computed. It stands by itself so that a wrong number is named before any proof.
+-- The entry of a reader behind a writer and a reader, computed. It stands by itself so that a wrong number is named before any proof.
 -- Assumes nothing.
 use mathlib.Core.Path.{refl}
 use Rattle.agent_ticket.specs.Turn.{turnOf}
@@ -15,4 +15,4 @@ use Rattle.history_reports.specs.Promises.{ReaderIsTold1}
 
 pub reader-is-told-1 : ReaderIsTold1
 unfolding entriesFrom events readOff opened sent stepped released refusalOf lowestFree stepSends releaseSends stepTakes releaseTakes turnOf clearingWordOf asked counted entryOf
-reader-is-told-1 = (refl, refl)
+reader-is-told-1 = (refl, refl, refl)

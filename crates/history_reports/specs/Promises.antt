@@ -22,11 +22,11 @@ asMoves cs = map (λ (c : Call). Do c) cs
 abbrev pub nthCall : List Call → ℕ → Call
 nthCall cs k = getD cs k (Show 0)
 
--- The k-th 12 bytes.
+-- The k-th 12 bytes, counted from 0 as calls are here.
 abbrev pub nthEntry : List ℕ → ℕ → List ℕ
 nthEntry entries k = take ENTRY (drop (ENTRY * k) entries)
 
--- How many tickets the slot i waits for right after the k-th call.
+-- How many tickets the slot i waits for right after the k-th call, counted from 0.
 abbrev pub waitsAfter : ℕ → List Call → ℕ → ℕ → ℕ
 waitsAfter n calls k i = waitsFor (ledgerAfter n (asMoves (take (suc k) calls))) i
 
@@ -49,12 +49,16 @@ pub record OfAHistory (n : ℕ) (s : State) (calls : List Call) (entries : List 
       outcomeIn (nthEntry entries k) ≡ 3 →
       (i : ℕ) × (nthCall calls k ≡ Step i) × (valueIn (nthEntry entries k) ≡ waitsAfter n calls k i)
 
--- A writer asks and holds, a reader asks behind it. The reader's step, the last call, is told 1, and 1 is what its slot then waits for.
+-- A writer asks and holds, two readers ask behind it. The second reader's step, the last call, is answered waiting with 1, and 1 is what its
+-- slot then waits for.
 abbrev behindAWriter : List Call
-behindAWriter = Open 0 1 ∷ Step 0 ∷ Open 0 0 ∷ Step 1 ∷ []
+behindAWriter = Open 0 1 ∷ Step 0 ∷ Open 0 0 ∷ Step 1 ∷ Open 0 0 ∷ Step 2 ∷ []
 
 abbrev pub ReaderIsTold1 : Type 0
-ReaderIsTold1 = (valueIn (nthEntry (entriesFrom (fresh 1) behindAWriter) 3) ≡ 1) × (waitsAfter 1 behindAWriter 3 1 ≡ 1)
+ReaderIsTold1 =
+    (outcomeIn (nthEntry (entriesFrom (fresh 1) behindAWriter) 5) ≡ 3) ×
+    (valueIn (nthEntry (entriesFrom (fresh 1) behindAWriter) 5) ≡ 1) ×
+    (waitsAfter 1 behindAWriter 5 2 ≡ 1)
 
 -- Whatever is played by runs on a fresh board, in however many pieces.
 abbrev pub ReportsAreOfHistories : Type 0
