@@ -55,8 +55,28 @@
  * everybody behind the first of these. They are told waiting, with a number that stops falling. One that dies owing or clearing leaves
  * the record full. A waiting request cannot give up, since others count on its release.
  *
- * docs/AGENT.md has all of this at length, with RDMA and with what an operator can do; examples/c/first.c is the loop as a program, and
- * examples/c/agent.c a whole agent.
+ * A caretaker ends the requests of a lost node in its place, where the node kept them in memory that outlives it. It goes over all of
+ * them in passes until none is in use, since one may wait for another, or for a node that lives:
+ *
+ *     if (q->phase == BRANCOVE_PHASE_HELD)
+ *         MEND(q); // the caretaker holds the record now, and a lost writer may have left it half written
+ *     told = brancove_care_takes(q, SEND(q->record, brancove_care_sends(q)));
+ *
+ * A waiting request is not freed by this: it is granted in its turn, and released by the care after that. One that is asking has drawn no
+ * ticket: nothing is sent, any number is handed over, and it is freed. No function can test what a caretaker has to know first. Without it two can hold one record:
+ *   - The node is fenced. It sends no verb of its own any more, not even a late one, and neither reads nor writes the records: its queue
+ *     pairs, to the words and to the records, are closed at the memory's side.
+ *   - No add and no swap of it is under way or of unknown fate. Each request is as brancove_ask or the last `_takes` left it, and no add
+ *     or swap was sent whose result was not taken. A caretaker's own adds and swaps count like the node's. A request whose ask was sent still says asking, and to free it would leave a ticket that nobody
+ *     releases; one whose release was sent still says held, and a second release would let two in. A read may be lost: it changed
+ *     nothing. A node that marks the request before it sends an add or a swap, and takes the mark away after `_takes`, lets a
+ *     caretaker see this. Where the mark stands there is no care: docs/AGENT.md, "What a death does".
+ *   - No two caretakers work on one request, and the node does not come back to it.
+ *   - What the node wrote, to the request and to the record, is seen before the first verb of a care.
+ *   - All else that a caller owes. The requests stay in use, and count, until they are free.
+ *
+ * docs/AGENT.md has all of this at length, with RDMA and with what an operator can do; examples/c/first.c is the loop as a program,
+ * examples/c/agent.c a whole agent, and examples/c/lost_node.c a caretaker.
  */
 #ifndef BRANCOVE_H
 #define BRANCOVE_H
@@ -96,7 +116,7 @@ enum {
 enum {
     BRANCOVE_ACCEPTED = 0,
     BRANCOVE_NO_SUCH_MODE = 3, /* ask: the mode is neither 0 nor 1 */
-    BRANCOVE_WRONG_PHASE = 5   /* ask: the request is in use; step: it is free or held; release: it is not held */
+    BRANCOVE_WRONG_PHASE = 5   /* ask: the request is in use; step: it is free or held; release: it is not held; care: it is free */
 };
 
 /* The outcome of an accepted answer. */
@@ -110,7 +130,8 @@ enum {
     BRANCOVE_TOLD_CLEARING_DUE = 7,  /* released, phase clearing */
     BRANCOVE_TOLD_CLEARED = 8,       /* free, and the word is 0 */
     BRANCOVE_TOLD_NOT_YET_CLEAR = 9, /* phase clearing */
-    BRANCOVE_TOLD_PASSED = 11        /* free: its turn is over */
+    BRANCOVE_TOLD_PASSED = 11,       /* free: its turn is over */
+    BRANCOVE_TOLD_FREED_UNASKED = 12 /* free: by a care, before it asked */
 };
 
 /* A request: 16 bytes, aligned as uint64_t, all zero when free. It is updated where the caller stores it. */
@@ -156,6 +177,16 @@ brancove_verb brancove_release_sends(brancove_request *q);
 /* What the request becomes with the verb's result. A refusal leaves the request. */
 brancove_told brancove_step_takes(brancove_request *q, uint64_t result);
 brancove_told brancove_release_takes(brancove_request *q, uint64_t result);
+
+/*
+ * The verb of a care, and what the request becomes with its result: for a caretaker alone, on what the head of this file says. By phase:
+ *   free                     refused, as a step is
+ *   asking                   nothing to send; freed with outcome 12, whatever result is handed over
+ *   waiting, owing, clearing a step
+ *   held                     a release
+ */
+brancove_verb brancove_care_sends(brancove_request *q);
+brancove_told brancove_care_takes(brancove_request *q, uint64_t result);
 
 /* The counters of a word. */
 brancove_counters brancove_split(uint64_t word);

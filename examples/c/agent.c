@@ -17,10 +17,14 @@
  */
 #include "agent.h"
 
-/* Sends a verb to a word and gives the word as it was before. */
-static uint64_t send_verb(lock_word *word, brancove_verb verb)
+/* Sends a verb to the request's word and gives the word as it was before. With nothing to send it gives 0. */
+static uint64_t send_verb(struct agent *agent, brancove_verb verb)
 {
+    lock_word *word = &agent->words[agent->request.record];
     uint64_t found = verb.first;
+    if (verb.kind == BRANCOVE_VERB_NOTHING)
+        return 0;
+    agent->verbs++;
     switch (verb.kind) {
     case BRANCOVE_VERB_ADD:
         return atomic_fetch_add(word, verb.first);
@@ -32,11 +36,31 @@ static uint64_t send_verb(lock_word *word, brancove_verb verb)
     }
 }
 
-static brancove_told step(struct agent *agent)
+/* The mark is set before an add or a swap is sent, and taken away when its result is taken: whoever finds it set cannot know what became
+ * of the verb. A read that is lost changed nothing. */
+static brancove_told one_verb(struct agent *agent, brancove_verb (*sends)(brancove_request *),
+                              brancove_told (*takes)(brancove_request *, uint64_t))
 {
-    brancove_verb verb = brancove_step_sends(&agent->request);
-    agent->verbs++;
-    return brancove_step_takes(&agent->request, send_verb(&agent->words[agent->request.record], verb));
+    brancove_verb verb = sends(&agent->request);
+    agent->under_way = verb.kind == BRANCOVE_VERB_ADD || verb.kind == BRANCOVE_VERB_SWAP;
+    brancove_told told = takes(&agent->request, send_verb(agent, verb));
+    agent->under_way = false;
+    return told;
+}
+
+brancove_told agent_step(struct agent *agent)
+{
+    return one_verb(agent, brancove_step_sends, brancove_step_takes);
+}
+
+brancove_told agent_release(struct agent *agent)
+{
+    return one_verb(agent, brancove_release_sends, brancove_release_takes);
+}
+
+brancove_told agent_care(struct agent *lost)
+{
+    return one_verb(lost, brancove_care_sends, brancove_care_takes);
 }
 
 static bool is_wrong(struct agent *agent, const char *what)
@@ -51,7 +75,7 @@ static bool ask_once(struct agent *agent, uint16_t record, uint8_t mode)
     if (brancove_ask(&agent->request, record, mode) != BRANCOVE_ACCEPTED)
         return is_wrong(agent, "an ask was refused");
     for (uint64_t reads = 0;; reads++) {
-        brancove_told told = step(agent);
+        brancove_told told = agent_step(agent);
         switch (told.outcome) {
         case BRANCOVE_TOLD_GRANTED:
             if (reads > agent->longest_wait)
@@ -85,15 +109,13 @@ bool agent_take(struct agent *agent, uint16_t record, uint8_t mode)
 
 bool agent_give_back(struct agent *agent)
 {
-    brancove_verb verb = brancove_release_sends(&agent->request);
-    agent->verbs++;
-    brancove_told told = brancove_release_takes(&agent->request, send_verb(&agent->words[agent->request.record], verb));
+    brancove_told told = agent_release(agent);
     if (told.outcome == BRANCOVE_TOLD_RELEASED)
         return true;
     if (told.outcome != BRANCOVE_TOLD_CLEARING_DUE)
         return is_wrong(agent, "a release was told what does not belong to it");
     /* This request drew the last ticket of its kind: nobody gets another before the word is cleared. */
-    while ((told = step(agent)).outcome == BRANCOVE_TOLD_NOT_YET_CLEAR)
+    while ((told = agent_step(agent)).outcome == BRANCOVE_TOLD_NOT_YET_CLEAR)
         agent->wait_for_turn(0);
     if (told.outcome != BRANCOVE_TOLD_CLEARED)
         return is_wrong(agent, "a clearing request was told what does not belong to its phase");

@@ -1,17 +1,9 @@
 /*
  * Threads that take records as readers and writers and hold every hold against the promises: a writer is alone, nobody is told that
- * its ticket has passed, every request ends. A violation is one line on standard error and status 1. See --help.
+ * its ticket has passed, every request ends. See --help.
  */
-#include <pthread.h>
-#include <sched.h>
-#include <stdio.h>
-#include <stdlib.h>
-#include <string.h>
-#include <time.h>
-
-#include "agent.h"
-
-enum { MOST_THREADS = 200, MOST_RECORDS = 64, WORK = 40, PATIENCE = 30 };
+#define SCENE "threads"
+#include "scene.h"
 
 static const char *const usage =
     "usage: threads [THREADS [RECORDS [REQUESTS [WRITERS]]]]\n"
@@ -19,19 +11,6 @@ static const char *const usage =
     "THREADS (1 to 200, 4 if not given) each make REQUESTS (300000) for one of RECORDS (1 to 64, 2), WRITERS (0 to 100, 25) of a hundred\n"
     "as writers. The last lines are verbs per second and the longest wait in reads. Status 1: a promise was broken, or no request\n"
     "ended for 30 seconds.\n";
-
-/*
- * What the locks guard. `inside` counts who is inside, a writer as ONE_WRITER. It is relaxed on purpose and the other two are plain: the
- * locks alone order them, so that a thread sanitizer sees an agent whose locks do not (tests/sanitize).
- */
-enum { ONE_WRITER = 1 << 16 };
-static struct guarded {
-    _Atomic uint32_t inside;
-    uint64_t begun;
-    uint64_t done;
-} guarded[MOST_RECORDS];
-
-static lock_word words[MOST_RECORDS];
 
 struct worker {
     pthread_t thread;
@@ -45,96 +24,24 @@ static struct worker workers[MOST_THREADS];
 static unsigned threads = 4, records = 2, requests = 300000, writers = 25;
 static pthread_barrier_t start;
 
-static _Noreturn void violation(const char *what, unsigned record)
-{
-    fprintf(stderr, "threads: VIOLATION: %s (record %u)\n", what, record);
-    _Exit(1);
-}
-
-/* Here a read is cheap. Where it crosses a network, the number ahead says how long the next one can wait. */
-static void wait_for_turn(uint64_t ahead)
-{
-    (void)ahead;
-    sched_yield();
-}
-
-static void wait_for_room(unsigned times)
-{
-    unsigned doublings = times < 8 ? times : 8;
-    struct timespec pause = {0, 5000L << doublings};
-    nanosleep(&pause, NULL);
-}
-
-static unsigned below(struct worker *worker, unsigned limit)
-{
-    worker->dice ^= worker->dice << 13;
-    worker->dice ^= worker->dice >> 7;
-    worker->dice ^= worker->dice << 17;
-    return (unsigned)((worker->dice >> 32) % limit);
-}
-
-static double now(void)
-{
-    struct timespec time;
-    clock_gettime(CLOCK_MONOTONIC, &time);
-    return (double)time.tv_sec + (double)time.tv_nsec / 1e9;
-}
-
-/* Now and then whoever is inside lets the others run, so that they meet a held record. */
-static void work(struct worker *worker)
-{
-    for (volatile int i = 0; i < WORK; i++) {
-    }
-    if (below(worker, 64) == 0)
-        sched_yield();
-}
-
-/* Gives how many were inside before. */
-static uint32_t enter(struct guarded *at, uint32_t who)
-{
-    return atomic_fetch_add_explicit(&at->inside, who, memory_order_relaxed);
-}
-
-static void leave(struct guarded *at, uint32_t who)
-{
-    atomic_fetch_sub_explicit(&at->inside, who, memory_order_relaxed);
-}
-
-static void write_alone(struct worker *worker, struct guarded *at, unsigned record)
-{
-    if (enter(at, ONE_WRITER) != 0)
-        violation("a writer shares a record", record);
-    at->begun++;
-    work(worker);
-    at->done++;
-    leave(at, ONE_WRITER);
-}
-
-static void read_with_readers(struct worker *worker, struct guarded *at, unsigned record)
-{
-    if (enter(at, 1) >= ONE_WRITER)
-        violation("a reader shares a record with a writer", record);
-    uint64_t done = at->done;
-    work(worker);
-    if (at->begun != done)
-        violation("a reader saw a writer's work half done", record);
-    leave(at, 1);
-}
-
 static void *run(void *argument)
 {
     struct worker *worker = argument;
     pthread_barrier_wait(&start);
     for (unsigned i = 0; i < requests; i++) {
-        unsigned record = below(worker, records);
-        uint8_t mode = below(worker, 100) < writers ? BRANCOVE_WRITER : BRANCOVE_READER;
+        unsigned record = below(&worker->dice, records);
+        uint8_t mode = below(&worker->dice, 100) < writers ? BRANCOVE_WRITER : BRANCOVE_READER;
         if (!agent_take(&worker->agent, (uint16_t)record, mode))
             violation(worker->agent.wrong, record);
         if (mode == BRANCOVE_WRITER) {
-            write_alone(worker, &guarded[record], record);
+            begin_write(record);
+            work(&worker->dice);
+            end_write(record);
             worker->wrote[record]++;
         } else {
-            read_with_readers(worker, &guarded[record], record);
+            uint64_t saw = begin_read(record);
+            work(&worker->dice);
+            end_read(record, saw);
         }
         if (!agent_give_back(&worker->agent))
             violation(worker->agent.wrong, record);
@@ -165,21 +72,6 @@ static void watch(void)
     }
 }
 
-/* At the end each ticket has been released and each withdrawal made, and no writer's work was lost. */
-static void look_at_the_end(void)
-{
-    for (unsigned record = 0; record < records; record++) {
-        brancove_counters word = brancove_split(atomic_load(&words[record]));
-        uint64_t wrote = 0;
-        if (word.nx != word.mx || word.ns != word.ms)
-            violation("tickets and releases differ at the end", record);
-        for (unsigned i = 0; i < threads; i++)
-            wrote += workers[i].wrote[record];
-        if (guarded[record].begun != wrote || guarded[record].done != wrote)
-            violation("a writer's work was lost", record);
-    }
-}
-
 static void print_totals(double seconds)
 {
     uint64_t verbs = 0, longest = 0, away = 0, cleared = 0;
@@ -199,16 +91,6 @@ static void print_totals(double seconds)
     printf("longest wait: %llu reads\n", (unsigned long long)longest);
 }
 
-static bool number(const char *text, unsigned least, unsigned most, unsigned *into)
-{
-    char *end;
-    unsigned long given = strtoul(text, &end, 10);
-    if (*text < '0' || *text > '9' || *end != 0 || given < least || given > most)
-        return false;
-    *into = (unsigned)given;
-    return true;
-}
-
 int main(int count, char **arguments)
 {
     if (count == 2 && strcmp(arguments[1], "--help") == 0) {
@@ -225,11 +107,8 @@ int main(int count, char **arguments)
     pthread_barrier_init(&start, NULL, threads + 1);
     for (unsigned i = 0; i < threads; i++) {
         workers[i].dice = 0x9e3779b97f4a7c15u * (i + 1);
-        workers[i].agent = (struct agent){.words = words, .wait_for_turn = wait_for_turn, .wait_for_room = wait_for_room};
-        if (pthread_create(&workers[i].thread, NULL, run, &workers[i]) != 0) {
-            fputs("threads: a thread could not be started\n", stderr);
-            return 2;
-        }
+        workers[i].agent = new_agent();
+        begin_thread(&workers[i].thread, run, &workers[i]);
     }
     double started = now();
     pthread_barrier_wait(&start);
@@ -240,7 +119,12 @@ int main(int count, char **arguments)
         if (workers[i].finished > finished)
             finished = workers[i].finished;
     }
-    look_at_the_end();
+    for (unsigned record = 0; record < records; record++) {
+        uint64_t wrote = 0;
+        for (unsigned i = 0; i < threads; i++)
+            wrote += workers[i].wrote[record];
+        look_at_the_end(record, wrote);
+    }
     print_totals(finished - started);
     return 0;
 }

@@ -1,4 +1,4 @@
--- The walk of `brancove_step_sends` and `brancove_release_sends`, by hand, for any callee: the borrow is opened, the request is loaded
+-- The walk of `brancove_step_sends`, `brancove_release_sends` and `brancove_care_sends`, by hand, for any callee: the borrow is opened, the request is loaded
 -- and passed to the callee, the borrow is closed as it was, and what came back is returned. All that is known of the callee is that
 -- it meets its contract. The MIR, the clauses and the callee's clauses are written out here; where a function is proved by this walk,
 -- antt compares them with the generated ones.
@@ -41,7 +41,7 @@ use Rattle.agent_c_rules.specs.Boundary.{verbOf}
 use Rattle.agent_c_rules.specs.declared.CVerb.{CVerb}
 use Rattle.agent_c_rules.proofs.CVerb as K
 use Rattle.agent_c_rules.proofs.CVerb.Laws as K′
--- of these two, the types of the parameters and the result alone, which are those of the other two functions as well
+-- of these two, the types of the parameters and the result alone, which are those of the other functions as well
 use Rattle.agent_c.proofs.step_sent as g
 use Rattle.agent_c.proofs.brancove_step_sends as f
 

@@ -1,4 +1,4 @@
--- The walk of `brancove_step_takes` and `brancove_release_takes`, by hand, for any callee: the borrow is opened, the request is loaded
+-- The walk of `brancove_step_takes`, `brancove_release_takes` and `brancove_care_takes`, by hand, for any callee: the borrow is opened, the request is loaded
 -- and passed to the callee with the result, the request that comes back is stored, the borrow is closed at it, and what is told is
 -- returned. All that is known of the callee is that it meets its contract. The MIR, the clauses and the callee's clauses are written
 -- out here; where a function is proved by this walk, antt compares them with the generated ones.
@@ -47,7 +47,7 @@ use Rattle.agent_c_rules.proofs.CTold as K
 use Rattle.agent_c_rules.proofs.CTold.Laws as K′
 use Rattle.agent_c_rules.proofs.Moved as N
 use Rattle.agent_c_rules.proofs.Moved.Laws as N′
--- of these two, the types of the parameters and the result alone, which are those of the other two functions as well
+-- of these two, the types of the parameters and the result alone, which are those of the other functions as well
 use Rattle.agent_c.proofs.step_moved as g
 use Rattle.agent_c.proofs.brancove_step_takes as f
 

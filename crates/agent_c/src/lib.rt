@@ -1,9 +1,10 @@
 // The agent for a caller in C. An exported function only loads the request, calls a function by value, stores and returns; the cases
-// stand in the functions by value. It relies on the contracts of `agent_sends`,
-// `agent_takes`, `agent_numbers`, `agent_request` and `word_layout` alone.
+// stand in the functions by value. It relies on the contracts of `agent_sends`, `agent_takes`, `agent_care`, `agent_numbers`,
+// `agent_request` and `word_layout` alone.
 ghost use mathlib.Core.Path.{_≡_};
 ghost use Rattle.word_layout.specs.Word.{splitOf};
 ghost use Rattle.agent_rules.specs.Life.{stepSends, releaseSends, stepTakes, releaseTakes};
+ghost use Rattle.agent_rules.specs.Care.{careSends, careTakes};
 ghost use Rattle.agent_c_rules.specs.Boundary.{verbOf, toldOf, movedOf, askedOf};
 use agent_c_rules::Asked;
 use agent_c_rules::CTold;
@@ -69,6 +70,13 @@ fn release_sent(q: Request) -> CVerb
     verb_of(agent_sends::release_sends(q))
 }
 
+// What a care sends, in numbers.
+fn care_sent(q: Request) -> CVerb
+    ensures { λ r. ⌜ r ≡ verbOf (careSends q) ⌝ }
+{
+    verb_of(agent_care::care_sends(q))
+}
+
 // What the agent made of a request, with the answer in numbers.
 fn moved_of(t: Taken) -> Moved
     ensures { λ r. ⌜ r ≡ movedOf t ⌝ }
@@ -93,6 +101,13 @@ fn release_moved(q: Request, v: u64) -> Moved
     ensures { λ r. ⌜ r ≡ movedOf (releaseTakes q v) ⌝ }
 {
     moved_of(agent_takes::release_takes(q, v))
+}
+
+// What the result of a care's verb makes of the request.
+fn care_moved(q: Request, v: u64) -> Moved
+    ensures { λ r. ⌜ r ≡ movedOf (careTakes q v) ⌝ }
+{
+    moved_of(agent_care::care_takes(q, v))
 }
 
 // A mode that is neither 0 nor 1 is refused first, then a request in use.
@@ -146,6 +161,15 @@ pub extern "C" fn brancove_release_sends(q: &mut Request) -> CVerb
     release_sent(was)
 }
 
+// What a care of the request sends; the request stays.
+#[no_mangle]
+pub extern "C" fn brancove_care_sends(q: &mut Request) -> CVerb
+    ensures { λ r. ⌜ (r ≡ verbOf (careSends (now (q .entry)))) × (now (q .exit) ≡ now (q .entry)) ⌝ }
+{
+    let was = *q;
+    care_sent(was)
+}
+
 // The result of a step's verb arrives: the request becomes what the agent makes of it, and what it is told comes back.
 #[no_mangle]
 pub extern "C" fn brancove_step_takes(q: &mut Request, result: u64) -> CTold
@@ -164,6 +188,17 @@ pub extern "C" fn brancove_release_takes(q: &mut Request, result: u64) -> CTold
 {
     let was = *q;
     let moved = release_moved(was, result);
+    *q = moved.request;
+    moved.told
+}
+
+// The result of a care's verb arrives: the request becomes what the agent makes of it, and what it is told comes back.
+#[no_mangle]
+pub extern "C" fn brancove_care_takes(q: &mut Request, result: u64) -> CTold
+    ensures { λ r. ⌜ (r ≡ toldOf (careTakes (now (q .entry)) result .answer)) × (now (q .exit) ≡ careTakes (now (q .entry)) result .request) ⌝ }
+{
+    let was = *q;
+    let moved = care_moved(was, result);
     *q = moved.request;
     moved.told
 }

@@ -4,6 +4,7 @@ use mathlib.Core.Path.{_≡_}
 use mathlib.Core.List.{List, [], _∷_, map}
 use Rattle.agent_request.specs.declared.Request.{Request}
 use Rattle.agent_rules.specs.Life.{stepSends, releaseSends, stepTakes, releaseTakes}
+use Rattle.agent_rules.specs.Care.{careSends, careTakes}
 use Rattle.agent_rules.specs.declared.Taken.{Taken}
 use Rattle.agent_c_rules.specs.Boundary.{verbOf, toldOf, askedOf}
 use Rattle.agent_c_rules.specs.declared.CVerb.{CVerb}
@@ -22,7 +23,7 @@ verb k f s = record { kind = k; first = f; second = s }
 abbrev told : ℕ → ℕ → ℕ → CTold
 told n o a = record { number = n; outcome = o; ahead = a }
 
--- A step or a release: the request, what is sent, the result, what is told, and the request afterwards.
+-- A step, a release or a care: the request, what is sent, the result, what is told, and the request afterwards.
 pub record Row : Type 0 where
   pub before : Request
   pub sent : CVerb
@@ -72,6 +73,28 @@ releases =
     row (kept 9 8 77 6 5 4) (verb 0 0 0) 5 (told 5 0 0) (kept 9 8 77 6 5 4) ∷
     []
 
+abbrev pub cares : List Row
+cares =
+    -- one that never asked sends nothing and is free, whatever is handed over
+    row (kept 8 1 1 0 0 0) (verb 0 0 0) 0 (told 0 12 0) free ∷
+    row (kept 8 0 1 0 0 0) (verb 0 0 0) 281474976776193 (told 0 12 0) free ∷
+    -- one that waits reads: it waits on, it is granted, it has passed
+    row (kept 8 0 2 1 0 0) (verb 2 0 0) 65537 (told 0 3 1) (kept 8 0 2 1 0 0) ∷
+    row (kept 8 0 2 1 0 0) (verb 2 0 0) 281474976776193 (told 0 2 0) (kept 8 0 3 1 0 0) ∷
+    row (kept 8 1 2 0 0 0) (verb 2 0 0) 281474976776192 (told 0 11 0) free ∷
+    -- one that holds lets go; with a clearing word the record is kept
+    row (kept 8 1 3 0 0 0) (verb 1 281474976710656 0) 65536 (told 0 6 0) free ∷
+    row (kept 8 0 3 1 0 0) (verb 1 4294967296 0) 5 (told 0 6 0) free ∷
+    row (kept 8 1 3 3 4 9) (verb 1 281474976710656 0) 5 (told 0 7 0) (kept 8 1 5 3 4 9) ∷
+    -- one that owes takes its 1 back; one that clears swaps
+    row (kept 8 0 4 0 0 0) (verb 1 (2 ^ 64 - 1) 0) 32769 (told 0 5 0) free ∷
+    row (kept 8 1 5 3 4 9) (verb 3 9 0) 9 (told 0 8 0) free ∷
+    row (kept 8 1 5 3 4 9) (verb 3 9 0) 8 (told 0 9 0) (kept 8 1 5 3 4 9) ∷
+    -- refused: a free record, and a phase that is none
+    row free (verb 0 0 0) 5 (told 5 0 0) free ∷
+    row (kept 9 8 77 6 5 4) (verb 0 0 0) 5 (told 5 0 0) (kept 9 8 77 6 5 4) ∷
+    []
+
 abbrev seen : (Request → CVerb) → (Request → ℕ → Taken) → Row → Row
 seen sends takes r = row (r .before) (sends (r .before)) (r .result) (toldOf (takes (r .before) (r .result) .answer)) (takes (r .before) (r .result) .request)
 
@@ -104,6 +127,9 @@ StepsHold = map (seen (λ q. verbOf (stepSends q)) stepTakes) steps ≡ steps
 
 abbrev pub ReleasesHold : Type 0
 ReleasesHold = map (seen (λ q. verbOf (releaseSends q)) releaseTakes) releases ≡ releases
+
+abbrev pub CaresHold : Type 0
+CaresHold = map (seen (λ q. verbOf (careSends q)) careTakes) cares ≡ cares
 
 abbrev pub AsksHold : Type 0
 AsksHold = map (λ (a : Ask). record { before = a .before; wanted = a .wanted; mode = a .mode; comes = askedOf (a .before) (a .wanted) (a .mode) }) asks ≡ asks

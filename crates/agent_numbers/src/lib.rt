@@ -39,5 +39,6 @@ pub fn numbers_of(a: Answer) -> Numbers
         Answer::Cleared => accepted(8, 0),
         Answer::NotYetClear => accepted(9, 0),
         Answer::Passed => accepted(11, 0),
+        Answer::FreedUnasked => accepted(12, 0),
     }
 }

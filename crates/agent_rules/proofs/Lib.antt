@@ -1,3 +1,4 @@
 pub mod Phases
 pub mod Examples
 pub mod Table
+pub mod Care

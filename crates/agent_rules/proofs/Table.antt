@@ -22,8 +22,11 @@ use Rattle.agent_request.specs.declared.Phase.{Phase}
 use Rattle.agent_request.specs.declared.Phase.the-variants.{Free, Asking, Waiting, Held, Owing, Clearing}
 use Rattle.agent_rules.specs.Answers.{numbersOf}
 use Rattle.agent_rules.specs.Life.{turned, waited, ticketed, asked, stepTakes, stepTakesIn, releaseTakes, releaseTakesIn}
-use Rattle.agent_rules.specs.Table.{isFree, isHeld, stepLines, releaseLines, StepRefusedExactly, ReleaseRefusedExactly, StepRefusedKeeps, ReleaseRefusedKeeps}
+use Rattle.agent_rules.specs.Care.{careTakes, careTakesIn}
+use Rattle.agent_rules.specs.Table.{isFree, isHeld, stepLines, StepRefusedExactly, StepRefusedKeeps}
+use Rattle.agent_rules.specs.Table.{releaseLines, ReleaseRefusedExactly, ReleaseRefusedKeeps, careLines, CareRefusedExactly, CareRefusedKeeps}
 use Rattle.agent_rules.specs.declared.Taken.{Taken}
+use Rattle.agent_rules.proofs.Phases.{step-takes-in, release-takes-in, care-takes-in}
 
 -- Held, by phase
 abbrev pub heldPhase : Phase → Bool
@@ -87,6 +90,9 @@ free-as-kept q = same (q .phase) .free
 pub held-as-kept : (q : Request) → heldPhase (phaseOf (q .phase)) ≡ isHeld q
 held-as-kept q = same (q .phase) .held
 
+abbrev numberTold : Taken → ℕ
+numberTold t = numbersOf (t .answer) .number
+
 -- what the agent tells is accepted
 pub record Accepted (t : Taken) : Type 0 where
   pub number : numbersOf (t .answer) .number ≡ 0
@@ -103,7 +109,7 @@ asked-accepted : (q : Request) (p : Counters) → Accepted (asked q p)
 unfolding asked
 asked-accepted q p = either Accepted (fullAt p) (record { number = refl }) (waited-accepted (ticketed q p) p)
 
--- by phase, the number that a step and a release are told
+-- by phase, the number that a step, a release and a care are told
 pub step-number : (p : Phase) (q : Request) (v : ℕ) → numbersOf (stepTakesIn p q v .answer) .number ≡ (if not (usedPhase p) || heldPhase p then 5 else 0)
 step-number Free q v = refl
 step-number Asking q v = asked-accepted q (splitOf v) .number
@@ -120,6 +126,17 @@ release-number Held q = either Accepted (eqb (q .clearing) NONE) (record { numbe
 release-number Owing q = refl
 release-number Clearing q = refl
 
+pub care-number :
+    (p : Phase) (q : Request) (v : ℕ) →
+    phaseOf (q .phase) ≡ p →
+    numbersOf (careTakesIn p q v .answer) .number ≡ (if not (usedPhase p) then 5 else 0)
+care-number Free q v e = ap numberTold (step-takes-in q Free e v)
+care-number Asking q v e = refl
+care-number Waiting q v e = ap numberTold (step-takes-in q Waiting e v) ∙ step-number Waiting q v
+care-number Held q v e = ap numberTold (release-takes-in q Held e v) ∙ release-number Held q
+care-number Owing q v e = ap numberTold (step-takes-in q Owing e v)
+care-number Clearing q v e = ap numberTold (step-takes-in q Clearing e v) ∙ step-number Clearing q v
+
 pub step-refused-exactly : StepRefusedExactly
 unfolding stepTakes
 step-refused-exactly q v n h =
@@ -133,6 +150,12 @@ unfolding releaseTakes
 release-refused-exactly q v n h =
     let e = release-number (phaseOf (q .phase)) q ∙ ap (λ (x : Bool). if not x then 5 else 0) (held-as-kept q) in
     (λ p. gives-it n h (releaseLines q) (sym e ∙ p), λ g. e ∙ it-gives n (releaseLines q) g)
+
+pub care-refused-exactly : CareRefusedExactly
+unfolding careTakes
+care-refused-exactly q v n h =
+    let e = care-number (phaseOf (q .phase)) q v refl ∙ ap (λ (x : Bool). if x then 5 else 0) (free-as-kept q) in
+    (λ p. gives-it n h (careLines q) (sym e ∙ p), λ g. e ∙ it-gives n (careLines q) g)
 
 -- a refused request stays
 step-keeps : (p : Phase) (q : Request) (v : ℕ) → 0 < numbersOf (stepTakesIn p q v .answer) .number → stepTakesIn p q v .request ≡ q
@@ -151,6 +174,14 @@ release-keeps Held q h = let e = release-number Held q in absurd (omega arith)
 release-keeps Owing q h = refl
 release-keeps Clearing q h = refl
 
+care-keeps : (p : Phase) (q : Request) (v : ℕ) → phaseOf (q .phase) ≡ p → 0 < numbersOf (careTakesIn p q v .answer) .number → careTakesIn p q v .request ≡ q
+care-keeps Free q v e h = ap (λ (t : Taken). t .request) (step-takes-in q Free e v)
+care-keeps Asking q v e h = absurd (omega arith)
+care-keeps Waiting q v e h = let n = care-number Waiting q v e in absurd (omega arith)
+care-keeps Held q v e h = let n = care-number Held q v e in absurd (omega arith)
+care-keeps Owing q v e h = let n = care-number Owing q v e in absurd (omega arith)
+care-keeps Clearing q v e h = let n = care-number Clearing q v e in absurd (omega arith)
+
 pub step-refused-keeps : StepRefusedKeeps
 unfolding stepTakes
 step-refused-keeps q v h = step-keeps (phaseOf (q .phase)) q v h
@@ -158,3 +189,7 @@ step-refused-keeps q v h = step-keeps (phaseOf (q .phase)) q v h
 pub release-refused-keeps : ReleaseRefusedKeeps
 unfolding releaseTakes
 release-refused-keeps q v h = release-keeps (phaseOf (q .phase)) q h
+
+pub care-refused-keeps : CareRefusedKeeps
+unfolding careTakes
+care-refused-keeps q v h = care-keeps (phaseOf (q .phase)) q v refl h

@@ -21,6 +21,7 @@ pub enum Answer {
     Cleared,
     NotYetClear,
     Passed,
+    FreedUnasked,
 }
 
 // What a request became, with what it is told.

@@ -66,6 +66,12 @@ enum-told-9 c = search needs
 accepted-requires-9 : tie.Need-accepted-requires-9
 accepted-requires-9 c κs = search needs
 
+enum-told-10 : tie.Need-enum-told-10
+enum-told-10 c = search needs
+
+accepted-requires-10 : tie.Need-accepted-requires-10
+accepted-requires-10 c κs = search needs
+
 returns : tie.Need-returns
 returns c = c .refused .ensures ∙ sym (ap numbersOf (c .before .enum-told .given .1))
 
@@ -96,6 +102,9 @@ returns-9 c = c .accepted8 .ensures ∙ sym (ap numbersOf (c .before .enum-told8
 returns-10 : tie.Need-returns-10
 returns-10 c = c .accepted9 .ensures ∙ sym (ap numbersOf (c .before .enum-told9 .given .1))
 
+returns-11 : tie.Need-returns-11
+returns-11 c = c .accepted10 .ensures ∙ sym (ap numbersOf (c .before .enum-told10 .given .1))
+
 pub numbers-of-spec : {M : Type 1} → statement M
 numbers-of-spec =
     tie.close
@@ -120,6 +129,8 @@ numbers-of-spec =
     accepted-requires-8
     enum-told-9
     accepted-requires-9
+    enum-told-10
+    accepted-requires-10
     returns
     returns-2
     returns-3
@@ -129,4 +140,5 @@ numbers-of-spec =
     returns-7
     returns-8
     returns-9
-    returns-10)
+    returns-10
+    returns-11)
