@@ -8,20 +8,20 @@ use lib.Dec.{eqb}
 use lib.ListN.{length, replicate}
 use Rattle.board_slots.specs.Slots.{freshSlots}
 use Rattle.board_rules.specs.declared.Answer.the-variants.{Begun}
-use Rattle.board_rules.specs.Board.{State, refused, begun}
+use Rattle.board_nodes.specs.Site.{Site, refusedAt, freshNodes, noFences, begunAt}
 
-module _ (s : State) where
-  pub begun-none : length (s .words) ≡ 0 → begun s ≡ refused 9 s
-  unfolding begun
+module _ (s : Site) where
+  pub begun-none : length (s .words) ≡ 0 → begunAt s ≡ refusedAt 9 s
+  unfolding begunAt
   begun-none e = rw (eq-eqb (length (s .words)) 0 e) refl
 
-  pub begun-many : 4096 < length (s .words) → begun s ≡ refused 9 s
-  unfolding begun
+  pub begun-many : 4096 < length (s .words) → begunAt s ≡ refusedAt 9 s
+  unfolding begunAt
   begun-many h = rw (lt-ltb 4096 (length (s .words)) h, or-true (eqb (length (s .words)) 0)) refl
 
   pub begun-all :
       (length (s .words) ≡ 0 → ⊥) →
       length (s .words) ≤ 4096 →
-      begun s ≡ record { slots = freshSlots; words = replicate (length (s .words)) 0; answer = Begun }
-  unfolding begun
+      begunAt s ≡ record { slots = freshSlots; nodes = freshNodes; fenced = noFences; words = replicate (length (s .words)) 0; answer = Begun }
+  unfolding begunAt
   begun-all n h = rw (ne-eqb (length (s .words)) 0 n, le-ltb 4096 (length (s .words)) h) refl

@@ -1,19 +1,25 @@
-// A fresh table of slots, and a board begun: all lent words 0 and all slots free. It relies on the contract of `agent_request` alone.
+// A fresh board, and a board begun: all lent words 0, all slots free and of node 0, no node fenced. It relies on the contract of `agent_request` alone.
 ghost use mathlib.Core.Path.{_≡_};
 ghost use lib.ListN.{length, replicate};
 ghost use Rattle.board_slots.specs.Slots.{freshSlots};
-ghost use Rattle.board_rules.specs.Board.{begun};
-ghost use Rattle.board_rules.specs.Leaves.{Leaves, lentTo};
+ghost use Rattle.board_nodes.specs.Site.{freshNodes, noFences, begunAt};
+ghost use Rattle.board_nodes.specs.Leaves.{Leaves, lentTo};
 use board_rules::Answer;
 use board_rules::Played;
 use board_slots::Board;
 
-// All slots free.
+// All slots free and of node 0, and no node fenced.
 pub fn fresh() -> Board
-    ensures { λ r. ⌜ r .slots ≡ freshSlots ⌝ }
+    ensures slots { λ r. ⌜ r .slots ≡ freshSlots ⌝ }
+    ensures nodes { λ r. ⌜ r .nodes ≡ freshNodes ⌝ }
+    ensures fenced { λ r. ⌜ r .fenced ≡ noFences ⌝ }
 {
     let free = agent_request::free();
-    Board { slots: [free; 256] }
+    Board {
+        slots: [free; 256],
+        nodes: [0u8; 256],
+        fenced: [false; 256],
+    }
 }
 
 fn clear(words: &mut [u64])
@@ -26,9 +32,9 @@ fn clear(words: &mut [u64])
     }
 }
 
-// Sets all lent words to 0 and all slots free; 9 for 0 words or more than 4,096.
+// Sets all lent words to 0 and all slots free, and takes the fences away; 9 for 0 words or more than 4,096.
 pub fn begin(b: Board, words: &mut [u64]) -> Played
-    ensures { λ r. ⌜ Leaves (begun (lentTo b (now (words .entry)))) r (now (words .exit)) ⌝ }
+    ensures { λ r. ⌜ Leaves (begunAt (lentTo b (now (words .entry)))) r (now (words .exit)) ⌝ }
 {
     let n = words.len();
     if n == 0 {

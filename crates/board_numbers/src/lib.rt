@@ -1,6 +1,8 @@
-// The answers of the board in numbers, and whether a verb was sent. It relies on the contract of `agent_numbers` alone.
+// The answers of the board in numbers, and whether a verb was sent. It relies on the contracts of `agent_numbers` and `board_gate` alone.
 ghost use mathlib.Core.Path.{_≡_};
 ghost use Rattle.board_rules.specs.Answers.{namedSlot, saidOf, verbsOf};
+ghost use Rattle.board_nodes.specs.Answers.{verbsOfAny};
+use board_call::AnyCall;
 use board_call::Call;
 use board_rules::Answer;
 use board_rules::Said;
@@ -56,6 +58,12 @@ pub fn tell(c: Call, a: Answer) -> Said
             slot,
             value: word,
         },
+        Answer::Fenced => Said {
+            number: 0,
+            outcome: 13,
+            slot,
+            value: 0,
+        },
     }
 }
 
@@ -73,4 +81,16 @@ pub fn verbs_of(c: Call, a: Answer) -> usize
         Call::Release(_) => 1,
         Call::Show(_) => 0,
     }
+}
+
+// The same of any call: a care counts as a step, but for one that freed a request unasked.
+pub fn verbs_of_any(o: AnyCall, a: Answer) -> usize
+    ensures { λ r. ⌜ r ≡ verbsOfAny o a ⌝ }
+{
+    let c = board_gate::reported_as(o);
+    let said = tell(c, a);
+    if said.outcome != 12 {
+        return verbs_of(c, a);
+    }
+    0
 }

@@ -2,7 +2,7 @@ pub mod Examples
 pub mod Sent
 pub mod Visits
 pub mod Promises
+pub mod Care
 pub mod Told
-pub mod Same
 pub mod Words
 pub mod Table

@@ -12,6 +12,7 @@ use Rattle.common.proofs.Choices.{either}
 use Rattle.agent_rules.specs.Life.{stepSends, releaseSends, stepTakes, releaseTakes}
 use Rattle.agent_rules.specs.declared.Verb.{Verb}
 use Rattle.agent_rules.specs.declared.Taken.{Taken}
+use Rattle.agent_request.specs.Request.{inUse}
 use Rattle.agent_request.specs.declared.Request.{Request}
 use Rattle.board_slots.specs.Slots.{SLOTS, lowestFree}
 use Rattle.board_slots.proofs.Promises.{lowest-is-free, lower-are-used}
@@ -21,6 +22,7 @@ use Rattle.board_rules.specs.Records.{RECORDS, isRecord, refusalOf}
 use Rattle.board_rules.specs.declared.Answer.{Answer}
 use Rattle.board_rules.specs.declared.Answer.the-variants.{Refused, Begun, Opened, Told}
 use Rattle.board_rules.specs.Board.{State, Done, stateOf, slotAt, refused, begun, opened, sent, stepped, released, shown, played}
+use Rattle.board_rules.specs.Care.{cared}
 use Rattle.board_rules.specs.Promises.{RefusedKeeps, RefusedBeginKeeps, OpenedIsLowest}
 
 -- if a call is refused it leaves the state s
@@ -57,6 +59,17 @@ all-keep s (Show r) = record { kept = λ n e. refl }
 
 pub refused-keeps : RefusedKeeps
 refused-keeps c s n e = all-keep s c .kept n e
+
+-- a refused care neither
+all-care : (s : State) (i : ℕ) → Keeps s (cared i s)
+unfolding cared
+all-care s i =
+    either (Keeps s) (leb SLOTS i) by-refusal
+    (either (Keeps s) (not (inUse (slotAt s i))) by-refusal
+    (either (Keeps s) (not (isRecord (slotAt s i .«record») (s .words))) by-refusal (clash (no-told _ _ refl))))
+
+pub refused-care-keeps : (i : ℕ) (s : State) (n : ℕ) → cared i s .answer ≡ Refused n → stateOf (cared i s) ≡ s
+refused-care-keeps i s n e = all-care s i .kept n e
 
 begin-keeps : (s : State) → Keeps s (begun s)
 unfolding begun

@@ -41,7 +41,7 @@ use Rattle.board_rules.specs.Answers.{saidWith, saidOf, namedSlot, sends
 use Rattle.board_rules.specs.Records.{RECORDS, isRecord, isNothing, refusalOf}
 use Rattle.board_rules.specs.declared.Said.{Said}
 use Rattle.board_rules.specs.declared.Answer.{Answer}
-use Rattle.board_rules.specs.declared.Answer.the-variants.{Refused, Begun, Opened, Told, Shown}
+use Rattle.board_rules.specs.declared.Answer.the-variants.{Refused, Begun, Opened, Told, Shown, Fenced}
 use Rattle.board_rules.specs.Board.{State, Done, slotAt, refused, begun, opened, sent, stepped, released, shown, shownOf, played}
 use Rattle.board_rules.specs.Table.{noRecord, linesOf, linesOfBegin, saidTo, RefusedExactly, AcceptedExactly, BeginRefusedExactly, BeginAcceptedExactly, BegunExactly}
 use Rattle.board_rules.specs.Table.{outcomeOf, NothingElseIsSaid, slotSaid, inRange, NamesItsSlot, ValueIsSaid, VerbsAreCounted, ShowSaysTheWord, outcomeNamed, answerNamed, AnswerIsItsNumbers}
@@ -54,6 +54,7 @@ refusalIn Begun = 0
 refusalIn (Opened k) = 0
 refusalIn (Told a) = 0
 refusalIn (Shown w) = 0
+refusalIn Fenced = 0
 
 -- an answer's number is its refusal's, or what the agent tells
 number-parts : (k : ℕ) (a : Answer) → saidWith k a .number ≡ refusalIn a + toldNumber a
@@ -62,16 +63,17 @@ number-parts k Begun = refl
 number-parts k (Opened o) = refl
 number-parts k (Told a) = sym (zero-add (numbersOf a .number))
 number-parts k (Shown w) = refl
+number-parts k Fenced = refl
 
 -- the tests of the definition are those of the table
-past : (m i : ℕ) → leb (m + 1) i ≡ ltb m i
+pub past : (m i : ℕ) → leb (m + 1) i ≡ ltb m i
 past m i = by (ltb m i) refl
   where
     by : (x : Bool) → ltb m i ≡ x → leb (m + 1) i ≡ ltb m i
     by true e = let h = ltb-true m i e in rw (e, le-leb (m + 1) i (omega arith)) refl
     by false e = let h = ltb-false m i e in rw (e, lt-leb (m + 1) i (omega arith)) refl
 
-not-past : (m i : ℕ) → not (ltb i (m + 1)) ≡ ltb m i
+pub not-past : (m i : ℕ) → not (ltb i (m + 1)) ≡ ltb m i
 not-past m i = by (ltb m i) refl
   where
     by : (x : Bool) → ltb m i ≡ x → not (ltb i (m + 1)) ≡ ltb m i
@@ -82,7 +84,7 @@ not-both : (a b : Bool) → not (a && b) ≡ (not a || not b)
 not-both true b = refl
 not-both false b = refl
 
-no-record : (r : ℕ) (s : State) → not (isRecord r (s .words)) ≡ noRecord r s
+pub no-record : (r : ℕ) (s : State) → not (isRecord r (s .words)) ≡ noRecord r s
 no-record r s = not-both (ltb r (length (s .words))) (ltb r RECORDS) ∙ ap (λ (x : Bool). not (ltb r (length (s .words))) || x) (not-past 4095 r)
 
 -- open, and show, by what the tests say
@@ -155,7 +157,7 @@ refusal-number (Show r) s long =
     show-number (isRecord r (s .words)) _ ∙ ap (λ (x : Bool). if x then 2 else 0) (no-record r s)
 
 -- an answer's number is the table's
-number-is : (c : Call) (s : State) → length (s .slots) ≡ SLOTS → saidTo c s .number ≡ numberIn (linesOf c s)
+pub number-is : (c : Call) (s : State) → length (s .slots) ≡ SLOTS → saidTo c s .number ≡ numberIn (linesOf c s)
 number-is c s long =
     let q = all-quiet c s .quiet in
     let p = number-parts (namedSlot c) (played c s .answer) in
@@ -214,7 +216,7 @@ record Plain (c : Call) (a : Answer) : Type 0 where
 low : (i : ℕ) → i < 256 → i % 256 ≡ i
 low i h = omega arith
 
-refused-slot : (c : Call) (n : ℕ) → inRange c → namedSlot c ≡ slotSaid c (Refused n)
+pub refused-slot : (c : Call) (n : ℕ) → inRange c → namedSlot c ≡ slotSaid c (Refused n)
 refused-slot (Open r m) n h = refl
 refused-slot (Step i) n h = low i h
 refused-slot (Release i) n h = low i h
@@ -272,6 +274,7 @@ stepMay tells.ClearingDue = false
 stepMay tells.Cleared = true
 stepMay tells.NotYetClear = true
 stepMay tells.Passed = true
+stepMay tells.FreedUnasked = false
 
 abbrev releaseMay : Tells → Bool
 releaseMay tells.WrongPhase = false
@@ -284,6 +287,7 @@ releaseMay tells.ClearingDue = true
 releaseMay tells.Cleared = false
 releaseMay tells.NotYetClear = false
 releaseMay tells.Passed = false
+releaseMay tells.FreedUnasked = false
 
 turned-may : (t : Turn) (q : Request) → stepMay (turned t q .answer) ≡ true
 turned-may turn.Passed q = refl
@@ -322,6 +326,7 @@ plain-step i tells.ClearingDue e = absurd (apart (sym e))
 plain-step i tells.Cleared e = record { number-small = omega arith; accepted = λ z. refl; refused = λ z. absurd (omega arith); slot = low i; value = λ x y. refl; verbs = refl; named = refl }
 plain-step i tells.NotYetClear e = record { number-small = omega arith; accepted = λ z. refl; refused = λ z. absurd (omega arith); slot = low i; value = λ x y. refl; verbs = refl; named = refl }
 plain-step i tells.Passed e = record { number-small = omega arith; accepted = λ z. refl; refused = λ z. absurd (omega arith); slot = low i; value = λ x y. refl; verbs = refl; named = refl }
+plain-step i tells.FreedUnasked e = absurd (apart (sym e))
 
 plain-release : (i : ℕ) (a : Tells) → releaseMay a ≡ true → Plain (Release i) (Told a)
 unfolding verbsOf
@@ -335,6 +340,7 @@ plain-release i tells.ClearingDue e = record { number-small = omega arith; accep
 plain-release i tells.Cleared e = absurd (apart (sym e))
 plain-release i tells.NotYetClear e = absurd (apart (sym e))
 plain-release i tells.Passed e = absurd (apart (sym e))
+plain-release i tells.FreedUnasked e = absurd (apart (sym e))
 
 abbrev PlainDone : Call → Done → Type 0
 PlainDone c d = Plain c (d .answer)

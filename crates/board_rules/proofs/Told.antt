@@ -24,7 +24,7 @@ use Rattle.board_call.specs.declared.Call.{Call}
 use Rattle.board_call.specs.declared.Call.the-variants.{Open, Step, Release, Show}
 use Rattle.board_rules.specs.Records.{isNothing, isRecord, refusalOf}
 use Rattle.board_rules.specs.declared.Answer.{Answer}
-use Rattle.board_rules.specs.declared.Answer.the-variants.{Refused, Begun, Opened, Told, Shown}
+use Rattle.board_rules.specs.declared.Answer.the-variants.{Refused, Begun, Opened, Told, Shown, Fenced}
 use Rattle.board_rules.specs.Board.{State, Done, slotAt, refused, opened, sent, stepped, released, shown, shownOf, played}
 use Rattle.board_rules.specs.Promises.{ToldIsAccepted}
 
@@ -59,6 +59,7 @@ toldNumber Begun = 0
 toldNumber (Opened k) = 0
 toldNumber (Told a) = numbersOf a .number
 toldNumber (Shown w) = 0
+toldNumber Fenced = 0
 
 pub record Quiet (d : Done) : Type 0 where
   pub quiet : toldNumber (d .answer) ≡ 0

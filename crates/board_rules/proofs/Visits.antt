@@ -2,7 +2,7 @@
 -- none is free it aims at one in use.
 -- Assumes nothing.
 use Prim.Native.Nat.{ℕ, _<_, _%_}
-use mathlib.Core.Path.{_≡_, refl, ap, sym, subst, _∙_}
+use mathlib.Core.Path.{_≡_, refl, ap, sym}
 use mathlib.Core.Bool.{Bool, true, false}
 use mathlib.Core.List.{List}
 use native.Mathlib.Omega.{arith}
@@ -17,21 +17,18 @@ use Rattle.agent_rules.specs.Life.{stepSends, releaseSends, stepTakes, releaseT
 use Rattle.agent_rules.specs.declared.Verb.{Verb}
 use Rattle.agent_rules.specs.declared.Taken.{Taken}
 use Rattle.board_slots.specs.Slots.{SLOTS, lowestFree}
-use Rattle.board_slots.specs.Map.{lowestZero, mapOf}
-use Rattle.board_slots.specs.declared.Board.{Board}
+use Rattle.board_slots.specs.Map.{lowestZero}
 use Rattle.board_slots.proofs.Promises.{lowest-is-free, lower-are-used, map-finds-lowest}
 use Rattle.board_call.specs.declared.Call.{Call}
 use Rattle.board_call.specs.declared.Call.the-variants.{Open, Step, Release, Show}
 use Rattle.board_rules.specs.Records.{isRecord, refusalOf}
 use Rattle.board_rules.specs.Sent.{visited, sentVisit}
 use Rattle.board_rules.specs.Visit.{aimOf, withinBoard, openVisit, showVisit, namedVisit, visitOf}
-use Rattle.board_rules.specs.Leaves.{Leaves, lentTo}
-use Rattle.board_rules.specs.declared.Played.{Played}
 use Rattle.board_rules.specs.declared.Answer.{Answer}
 use Rattle.board_rules.specs.declared.Answer.the-variants.{Refused}
 use Rattle.board_rules.specs.Visit.{stored}
 use Rattle.board_rules.specs.Promises.{VisitIsPlayed}
-use Rattle.board_rules.specs.Board.{State, Done, refused, sent, opened, stepped, released, shown, slotAt, played}
+use Rattle.board_rules.specs.Board.{State, refused, sent, opened, stepped, released, shown, slotAt, played}
 
 -- a refused visit writes back what stood there
 back : (s : State) (i : ℕ) (a : Answer) → record { slots = s .slots; words = s .words; answer = a } ≡ stored s i (visited (slotAt s i) (s .words) a)
@@ -63,7 +60,7 @@ open-stored s r m i true false false a b c d e =
     rw (a, b, c, d, low, at) refl
 
 -- where an open aims, by whether a slot is free
-aimed-use : (l : List Request) → length l ≡ SLOTS → (f : Bool) → leb SLOTS (lowestFree l) ≡ f → inUse (getD l (withinBoard (lowestFree l)) freeRequest) ≡ f
+pub aimed-use : (l : List Request) → length l ≡ SLOTS → (f : Bool) → leb SLOTS (lowestFree l) ≡ f → inUse (getD l (withinBoard (lowestFree l)) freeRequest) ≡ f
 aimed-use l long true e = rw e (lower-are-used l 0 (let h = leb-true SLOTS (lowestFree l) e in omega arith))
 aimed-use l long false e = rw e (lowest-is-free l (let h = leb-false SLOTS (lowestFree l) e in omega arith))
 
@@ -110,16 +107,3 @@ aim-small (Open r n) m = within-small (lowestZero m) (leb SLOTS (lowestZero m)) 
 aim-small (Step i) m = within-small i (leb SLOTS i) refl
 aim-small (Release i) m = within-small i (leb SLOTS i) refl
 aim-small (Show r) m = omega arith
-
--- what a visit of the aimed slot leaves of a board by value is what the call leaves
-pub by-visit :
-    (c : Call) (b : Board) (ws ws′ : List ℕ) (i : ℕ) (r : Played) →
-    length (b .slots) ≡ SLOTS →
-    i ≡ aimOf c (mapOf (b .slots)) →
-    Leaves (stored (lentTo b ws) i (visitOf c i (slotAt (lentTo b ws) i) ws)) r ws′ →
-    Leaves (played c (lentTo b ws)) r ws′
-by-visit c b ws ws′ i r long aim l =
-    let s = lentTo b ws in
-    let e : played c s ≡ stored s i (visitOf c i (slotAt s i) ws) =
-    visit-is-played c s long ∙ ap (λ (j : ℕ). stored s j (visitOf c j (slotAt s j) ws)) (sym aim) in
-    subst (λ (d : Done). Leaves d r ws′) (sym e) l

@@ -2,8 +2,8 @@ pub mod Answers
 pub mod Records
 pub mod Sent
 pub mod Board
+pub mod Care
 pub mod Visit
-pub mod Leaves
 pub mod Table
 pub mod Promises
 pub mod Examples

@@ -16,7 +16,7 @@ use Rattle.board_call.specs.declared.Call.the-variants.{Open, Step, Release, Sh
 use Rattle.board_rules.specs.Answers.{saidOf, saidWith, verbsOf}
 use Rattle.board_rules.specs.declared.Said.{Said}
 use Rattle.board_rules.specs.declared.Answer.{Answer}
-use Rattle.board_rules.specs.declared.Answer.the-variants.{Refused, Begun, Opened, Told, Shown}
+use Rattle.board_rules.specs.declared.Answer.the-variants.{Refused, Begun, Opened, Told, Shown, Fenced}
 use Rattle.board_rules.specs.Board.{State, slotAt, begun, played}
 
 -- Rule 4.2: a number that is no record.
@@ -95,6 +95,7 @@ slotSaid (Open r m) (Refused n) = 0
 slotSaid (Open r m) Begun = 0
 slotSaid (Open r m) (Told a) = 0
 slotSaid (Open r m) (Shown w) = 0
+slotSaid (Open r m) Fenced = 0
 slotSaid (Step i) a = i
 slotSaid (Release i) a = i
 slotSaid (Show r) a = 0
@@ -138,7 +139,9 @@ outcomeNamed o k v =
     if eqb o 8 then Told tells.Cleared else
     if eqb o 9 then Told tells.NotYetClear else
     if eqb o 10 then Shown v else
-    if eqb o 11 then Told tells.Passed else Begun
+    if eqb o 11 then Told tells.Passed else
+    if eqb o 12 then Told tells.FreedUnasked else
+    if eqb o 13 then Fenced else Begun
 
 -- The answer that number, outcome, slot and value name.
 abbrev pub answerNamed : Said → Answer

@@ -9,6 +9,7 @@ pub enum Answer {
     Opened(u8),
     Told(agent_rules::Answer),
     Shown(u64),
+    Fenced,
 }
 
 // An answer in numbers: rules 5.1, 5.3 and 7.6.

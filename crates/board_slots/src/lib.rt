@@ -2,8 +2,11 @@
 // `board_map_kept` and `board_map_read` compute them.
 use agent_request::Request;
 
+// What a board keeps: its slots, for each of them its node (0 for one that was freed), and for each node whether it is fenced.
 pub struct Board {
     pub slots: [Request; 256],
+    pub nodes: [u8; 256],
+    pub fenced: [bool; 256],
 }
 
 // A one for each slot in use.

@@ -2,8 +2,8 @@
 -- Assumes nothing.
 use mathlib.Core.Path.{_∙_, sym, ap}
 use denote.Ref.{now}
-use Rattle.board_rules.specs.Board.{Done}
-use Rattle.board_rules.specs.Leaves.{lentTo}
+use Rattle.board_nodes.specs.Site.{SiteDone}
+use Rattle.board_nodes.specs.Leaves.{lentTo}
 use Rattle.board_begin.proofs.Begins.{begun-none, begun-many, begun-all}
 use borrow.Author.Needs.{needs}
 use Rattle.board_begin.proofs.begin.Statement.{statement}
@@ -14,9 +14,11 @@ returns c =
     let a = c .before .before .args in
     let e = begun-none (lentTo (a .b) (now (a .words))) (c .if1 .taken) in
     record {
-      slots = sym (ap (λ (d : Done). d .slots) e);
-      answer = sym (ap (λ (d : Done). d .answer) e);
-      words = sym (ap (λ (d : Done). d .words) e);
+      slots = sym (ap (λ (d : SiteDone). d .slots) e);
+      nodes = sym (ap (λ (d : SiteDone). d .nodes) e);
+      fenced = sym (ap (λ (d : SiteDone). d .fenced) e);
+      answer = sym (ap (λ (d : SiteDone). d .answer) e);
+      words = sym (ap (λ (d : SiteDone). d .words) e);
     }
 
 returns-2 : tie.Need-returns-2
@@ -24,9 +26,11 @@ returns-2 c =
     let a = c .before .before .before .args in
     let e = begun-many (lentTo (a .b) (now (a .words))) (c .if2 .taken) in
     record {
-      slots = sym (ap (λ (d : Done). d .slots) e);
-      answer = sym (ap (λ (d : Done). d .answer) e);
-      words = sym (ap (λ (d : Done). d .words) e);
+      slots = sym (ap (λ (d : SiteDone). d .slots) e);
+      nodes = sym (ap (λ (d : SiteDone). d .nodes) e);
+      fenced = sym (ap (λ (d : SiteDone). d .fenced) e);
+      answer = sym (ap (λ (d : SiteDone). d .answer) e);
+      words = sym (ap (λ (d : SiteDone). d .words) e);
     }
 
 clear-requires : tie.Need-clear-requires
@@ -43,9 +47,11 @@ returns-3 c =
     let a = c .before .before .before .before .before .before .before .before .args in
     let e = begun-all (lentTo (a .b) (now (a .words))) (c .before .before .before .before .before .before .if1 .left) (c .before .before .before .before .before .if2 .left) in
     record {
-      slots = c .fresh .ensures ∙ sym (ap (λ (d : Done). d .slots) e);
-      answer = sym (ap (λ (d : Done). d .answer) e);
-      words = c .before .before .before .clear .ensures ∙ sym (ap (λ (d : Done). d .words) e);
+      slots = c .fresh .ensures .0 ∙ sym (ap (λ (d : SiteDone). d .slots) e);
+      nodes = c .fresh .ensures .1 .0 ∙ sym (ap (λ (d : SiteDone). d .nodes) e);
+      fenced = c .fresh .ensures .1 .1 ∙ sym (ap (λ (d : SiteDone). d .fenced) e);
+      answer = sym (ap (λ (d : SiteDone). d .answer) e);
+      words = c .before .before .before .clear .ensures ∙ sym (ap (λ (d : SiteDone). d .words) e);
     }
 
 pub begin-spec : {M : Type 1} → statement M

@@ -1,12 +1,14 @@
--- `board_by_value::release` meets its contract: the visit of the named slot is the call; the map has no part in it.
+-- `board_by_value::release` meets its contract: the visit of the slot that it aims at is the call; the map has no part in it.
 -- Assumes nothing.
 use Prim.Native.Nat.{ℕ, _<_}
 use mathlib.Core.Path.{_∙_, sym, subst}
 use denote.Ref.{now}
 use lib.ListN.{length-map}
 use Rattle.board_call.specs.declared.Call.the-variants.{Release}
+use Rattle.board_call.specs.declared.AnyCall.the-variants.{Base}
 use Rattle.board_rules.specs.Visit.{aimOf}
-use Rattle.board_rules.proofs.Visits.{by-visit, aim-small}
+use Rattle.board_rules.proofs.Visits.{aim-small}
+use Rattle.board_nodes.proofs.Placed.{by-visit}
 use borrow.Author.Needs.{needs}
 use Rattle.board_by_value.proofs.release.Statement.{statement}
 use Rattle.board_by_value.proofs.release.Tie as tie
@@ -24,7 +26,7 @@ returns : tie.Need-returns
 unfolding aimOf
 returns c =
     let a = c .before .before .before .before .before .before .args in
-    by-visit (Release (a .slot)) (a .b) (now (a .words)) _ _ _
+    by-visit (Base (Release (a .slot))) (a .b) (now (a .words)) _ _ _
     (sym (length-map (a .b .slots) _) ∙ c .before .before .before .before .before .before .good .0 .1 .1 .0 .1 .0 .1)
     (c .before .before .before .before .aim .ensures) (c .before .before .placed .ensures)
 

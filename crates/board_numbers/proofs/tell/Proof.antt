@@ -40,6 +40,12 @@ returns-4 c = simp (c .before .before .a3 .given .1, c .before .before .before .
 returns-5 : tie.Need-returns-5
 returns-5 c = simp (c .before .a4 .given .1, c .before .before .before .named-slot .ensures)
 
+enum-told-2 : tie.Need-enum-told-2
+enum-told-2 c = search needs
+
+returns-6 : tie.Need-returns-6
+returns-6 c = simp (c .enum-told2 .given .1, c .before .before .named-slot .ensures)
+
 pub tell-spec : {M : Type 1} → statement M
 tell-spec =
     tie.close
@@ -51,8 +57,10 @@ tell-spec =
     enum-known-a-3
     numbers-of-requires
     enum-known-a-4
+    enum-told-2
     returns
     returns-2
     returns-3
     returns-4
-    returns-5)
+    returns-5
+    returns-6)

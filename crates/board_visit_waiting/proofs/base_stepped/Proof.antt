@@ -1,9 +1,9 @@
--- `board_visit_waiting::stepped` meets its contract: each arm is the clause of `steppedSlot`.
+-- `board_visit_waiting::base_stepped` meets its contract: each arm is the clause of `steppedSlot`.
 -- Assumes nothing.
 use borrow.Author.Tests.{le-leb, lt-leb}
 use borrow.Author.Needs.{needs}
-use Rattle.board_visit_waiting.proofs.stepped.Statement.{statement}
-use Rattle.board_visit_waiting.proofs.stepped.Tie as tie
+use Rattle.board_visit_waiting.proofs.base_stepped.Statement.{statement}
+use Rattle.board_visit_waiting.proofs.base_stepped.Tie as tie
 
 enum-told : tie.Need-enum-told
 enum-told c = search needs
@@ -32,8 +32,8 @@ returns-4 c = search needs
 returns-5 : tie.Need-returns-5
 returns-5 c = search needs
 
-pub stepped-spec : {M : Type 1} → statement M
-stepped-spec =
+pub base-stepped-spec : {M : Type 1} → statement M
+base-stepped-spec =
     tie.close
     (tie.spec
     enum-told
