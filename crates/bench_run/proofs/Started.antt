@@ -1,21 +1,25 @@
 -- The run from what `begin` leaves of a fresh board is the run of `benchOf`, for any allowance.
 -- Assumes nothing.
 use Prim.Native.Nat.{ℕ}
-use mathlib.Core.Path.{_≡_, _∙_, ap}
+use mathlib.Core.Path.{_≡_, refl, _∙_, ap}
 use mathlib.Core.List.{List}
 use Rattle.board_slots.specs.Slots.{freshSlots}
 use Rattle.board_slots.specs.declared.Board.{Board}
-use Rattle.board_rules.specs.Board.{begun}
-use Rattle.board_rules.specs.Leaves.{lentTo}
+use Rattle.board_rules.specs.declared.Played.{Played}
+use Rattle.board_nodes.specs.Site.{Site, siteOf, freshNodes, noFences, begunAt}
+use Rattle.board_nodes.specs.Leaves.{Leaves, lentTo}
 use Rattle.run_play.specs.Comes.{wholeOf}
+use Rattle.run_play.proofs.Playing.{same-site}
 use Rattle.bench_run.specs.Bench.{started}
 
 pub same-run :
-    (n : ℕ) (bytes report words : List ℕ) (fresh board : Board) (lent : List ℕ) →
+    (n : ℕ) (bytes report words : List ℕ) (fresh : Board) (begun : Played) (lent : List ℕ) →
     fresh .slots ≡ freshSlots →
-    board .slots ≡ begun (lentTo fresh words) .slots →
-    lent ≡ begun (lentTo fresh words) .words →
-    wholeOf (board .slots) lent bytes 0 n report ≡ wholeOf (started words .slots) (started words .words) bytes 0 n report
-same-run n bytes report words fresh board lent f s w =
-    ap (λ l. wholeOf l lent bytes 0 n report) (s ∙ ap (λ l. begun (record { slots = l; words = words }) .slots) f) ∙
-    ap (λ (l : List ℕ). wholeOf (started words .slots) l bytes 0 n report) (w ∙ ap (λ l. begun (record { slots = l; words = words }) .words) f)
+    fresh .nodes ≡ freshNodes →
+    fresh .fenced ≡ noFences →
+    Leaves (begunAt (lentTo fresh words)) begun lent →
+    wholeOf (lentTo (begun .board) lent) bytes 0 n report ≡ wholeOf (started words) bytes 0 n report
+same-run n bytes report words fresh begun lent s k f left =
+    ap (λ (t : Site). wholeOf t bytes 0 n report)
+    (same-site (left .slots) (left .nodes) (left .fenced) (left .words) ∙
+    ap (λ (t : Site). siteOf (begunAt t)) (same-site s k f refl))

@@ -3,7 +3,7 @@ use Prim.Native.Nat.{ℕ}
 use mathlib.Core.Path.{_≡_}
 use mathlib.Core.List.{List}
 use Rattle.board_slots.specs.Slots.{freshSlots}
-use Rattle.board_rules.specs.Board.{Done, begun}
+use Rattle.board_nodes.specs.Site.{Site, siteOf, freshNodes, noFences, begunAt}
 use Rattle.run_rules.specs.Run.{Whole, reportOf}
 use Rattle.run_play.specs.Comes.{wholeOf}
 
@@ -12,12 +12,12 @@ abbrev pub ENOUGH : ℕ
 ENOUGH = 1099511627776
 
 -- A fresh board, begun over the lent words: with 0 words or more than 4,096 they stay as they are.
-abbrev pub started : List ℕ → Done
-started words = begun (record { slots = freshSlots; words = words })
+abbrev pub started : List ℕ → Site
+started words = siteOf (begunAt (record { slots = freshSlots; nodes = freshNodes; fenced = noFences; words = words }))
 
 -- The whole run of the schedule.
 abbrev pub benchOf : List ℕ → List ℕ → List ℕ → Whole
-benchOf words bytes report = wholeOf (started words .slots) (started words .words) bytes 0 ENOUGH report
+benchOf words bytes report = wholeOf (started words) bytes 0 ENOUGH report
 
 -- The result, the words and the report afterwards are those of that run.
 pub record Benched (words bytes report : List ℕ) (r : ℕ) (words′ report′ : List ℕ) : Type 0 where

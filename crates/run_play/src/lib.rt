@@ -1,8 +1,9 @@
 // A run: plays the records of a schedule one by one and reports each in 12 bytes. The board is in one local and its map in another, so that
-// no record copies the table. A step that goes on waiting, which changes no slot and no word, is reported and counted without a visit; an open goes
-// its own way, without what only steps and releases need. It relies on the contracts of the crates that it calls alone.
+// no record copies the table. A step that goes on waiting, which changes nothing of the board and no word, is reported and counted without a visit;
+// an open goes its own way, without what only the other calls need. It relies on the contracts of the crates that it calls alone.
 ghost use mathlib.Core.Path.{_≡_};
 ghost use Rattle.agent_rules.specs.declared.Answer.the-variants.{Waiting};
+ghost use Rattle.board_call.specs.declared.Call.the-variants.{Step};
 ghost use Rattle.board_rules.specs.Answers.{saidOf};
 ghost use Rattle.board_rules.specs.declared.Answer.the-variants.{Told};
 ghost use Rattle.run_entry.specs.Entry.{putOf};
@@ -20,15 +21,15 @@ pub struct Ran {
     pub board: Board,
 }
 
-// Writes the entry of a step that goes on waiting.
-fn put_waiting(report: &mut [u8], at: usize, c: Call, ahead: u64)
-    ensures { λ r. ⌜ now (report .exit) ≡ putOf (now (report .entry)) at (saidOf c (Told (Waiting ahead))) ⌝ }
+// Writes the entry of a step of slot n that goes on waiting.
+fn put_waiting(report: &mut [u8], at: usize, n: usize, ahead: u64)
+    ensures { λ r. ⌜ now (report .exit) ≡ putOf (now (report .entry)) at (saidOf (Step n) (Told (Waiting ahead))) ⌝ }
 {
     run_entry::put(
         report,
         at,
         board_numbers::tell(
-            c,
+            Call::Step(n as u64),
             board_rules::Answer::Told(agent_rules::Answer::Waiting(ahead)),
         ),
     );
@@ -57,7 +58,7 @@ pub fn run(
     allowance: usize,
     report: &mut [u8],
 ) -> Ran
-    ensures ran { λ r. ⌜ Comes (b .slots) (now (words .entry)) (now (s .entry)) at allowance (now (report .entry))
+    ensures ran { λ r. ⌜ Comes b (now (words .entry)) (now (s .entry)) at allowance (now (report .entry))
         r (now (words .exit)) (now (report .exit)) ⌝ }
 {
     let mut cur = b;
@@ -72,35 +73,41 @@ pub fn run(
         if stop != 0 {
             return came_to(stop, records, place - at, verbs, cur);
         }
-        let Next::Record(c, after) = next else {
+        let Next::Record(o, after) = next else {
             return came_to(run_halts::left_by(next), records, place - at, verbs, cur);
         };
         let k = records * 12;
         records += 1;
         place = after;
-        let n = board_visit_waiting::stepped(c);
+        let n = board_visit_waiting::stepped(o);
         if n < 256 {
-            let ahead = board_visit_waiting::still_ahead(cur.slots[n], words);
+            let shut = cur.fenced[cur.nodes[n] as usize];
+            let ahead = board_visit_waiting::still_ahead(shut, cur.slots[n], words);
             if ahead != 0 {
-                put_waiting(report, k, c, ahead);
+                put_waiting(report, k, n, ahead);
                 verbs += 1;
                 continue;
             }
         }
+        let c = board_gate::reported_as(o);
+        let i = board_visit_aim::aim(c, map);
+        let q = cur.slots[i];
+        let node = cur.nodes[i];
+        let g = board_gate::watched_node(o, node) as usize;
+        let shut = cur.fenced[g];
         let Call::Open(record, mode) = c else {
-            let i = board_visit_aim::aim(c, map);
-            let q = cur.slots[i];
-            let t = run_turn::turn(c, i, q, words, report, k);
+            let t = run_turn::turn(o, i, shut, q, words, report, k);
             let request = t.request;
             cur.slots[i] = request;
+            cur.nodes[i] = board_gate::kept_node(o, q, request, node);
+            cur.fenced[g] = board_gate::fence_after(o, shut);
             map = board_map_kept::marked(map, i, q, request);
             verbs += t.verbs;
             continue;
         };
-        let o = board_visit_aim::aim(c, map);
-        let was = cur.slots[o];
-        let opened = run_turn::open_turn(record, mode, o, was, words, report, k);
-        cur.slots[o] = opened;
-        map = board_map_kept::marked(map, o, was, opened);
+        let opened = run_turn::open_turn(record, mode, i, shut, q, words, report, k);
+        cur.slots[i] = opened;
+        cur.nodes[i] = board_gate::kept_node(o, q, opened, node);
+        map = board_map_kept::marked(map, i, q, opened);
     }
 }

@@ -11,8 +11,8 @@ use borrow.Author.Tests.{ltb-false}
 use lib.Dec.{eqb, ltb, eqb·suc-zero}
 use types.Run.{OneOf}
 use denote.Enum.Declared.{tagOf}
-use Rattle.board_call.specs.declared.Call.{Call}
-use Rattle.board_rules.specs.Board.{State, stateOf, played}
+use Rattle.board_call.specs.declared.AnyCall.{AnyCall}
+use Rattle.board_nodes.specs.Site.{Site, siteOf, playedAt}
 use Rattle.schedule_bytes.specs.Schedule.{nextOf}
 use Rattle.schedule_bytes.specs.declared.Next.{Next}
 use Rattle.schedule_bytes.specs.declared.Next.the-variants.{Record, End, Unknown, Cut}
@@ -24,12 +24,12 @@ use Rattle.run_rules.specs.Halts.{isEnd, haltedOf, leavesOf, HaltsWhereI
 abbrev pub others : List ℕ
 others = 1 ∷ 2 ∷ 3 ∷ []
 
-no-record : (n : Next) → OneOf others (tagOf next-type.the-type n) → (c : Call) (next : ℕ) → n ≡ Record c next → ⊥
+no-record : (n : Next) → OneOf others (tagOf next-type.the-type n) → (c : AnyCall) (next : ℕ) → n ≡ Record c next → ⊥
 no-record n o c next e =
     let z : OneOf others 0 = rw e at o in
     ⊎-elim (λ f. omega arith) (⊎-elim (λ f. omega arith) (λ f. omega arith)) z
 
-module _ (at : ℕ) (s : State) where
+module _ (at : ℕ) (s : Site) where
   same-end : (m n : ℕ) → m ≡ n → ended m at s ≡ ended n at s
   same-end m n e = ap (λ (k : ℕ). ended k at s) e
 
@@ -40,7 +40,7 @@ module _ (at : ℕ) (s : State) where
   halts-spent Cut short h e ne = same-end 11 h e
 
   halts-short :
-      (n : Next) (short : Bool) (h : ℕ) (rest : ℕ → State → Whole) →
+      (n : Next) (short : Bool) (h : ℕ) (rest : ℕ → Site → Whole) →
       haltedOf (isEnd n) false short ≡ h →
       (h ≡ 0 → ⊥) →
       goesOn n short at s rest ≡ ended h at s
@@ -59,8 +59,8 @@ module _ (at : ℕ) (s : State) where
   leaves-spent Cut short e = absurd (omega arith)
 
   leaves-short :
-      (n : Next) (short : Bool) (rest : ℕ → State → Whole) →
-      ((c : Call) (next : ℕ) → n ≡ Record c next → ⊥) →
+      (n : Next) (short : Bool) (rest : ℕ → Site → Whole) →
+      ((c : AnyCall) (next : ℕ) → n ≡ Record c next → ⊥) →
       haltedOf (isEnd n) false short ≡ 0 →
       goesOn n short at s rest ≡ ended (leavesOf n) at s
   leaves-short End short rest o e = refl
@@ -72,9 +72,9 @@ module _ (at : ℕ) (s : State) where
   leaves-short (Record c next) false rest o e = absurd (o c next refl)
 
   plays-short :
-      (c : Call) (next : ℕ) (short : Bool) (rest : ℕ → State → Whole) →
+      (c : AnyCall) (next : ℕ) (short : Bool) (rest : ℕ → Site → Whole) →
       _≡_ {A = ℕ} (haltedOf false false short) 0 →
-      goesOn (Record c next) short at s rest ≡ followed c (played c s .answer) (rest next (stateOf (played c s)))
+      goesOn (Record c next) short at s rest ≡ followed c (playedAt c s .answer) (rest next (siteOf (playedAt c s)))
   plays-short c next true rest e = absurd (omega arith)
   plays-short c next false rest e = refl
 
@@ -82,7 +82,7 @@ room-left : (room : ℕ) (short : Bool) → ltb room 12 ≡ short → _≡_ {A =
 room-left room true t e = absurd (omega arith)
 room-left room false t e = ltb-false room 12 t
 
-module _ (bytes : List ℕ) (at : ℕ) (s : State) (room : ℕ) where
+module _ (bytes : List ℕ) (at : ℕ) (s : Site) (room : ℕ) where
   pub halts : (a h : ℕ) → haltedOf (isEnd (nextOf bytes at)) (eqb a 0) (ltb room 12) ≡ h → (h ≡ 0 → ⊥) → runOf a room bytes at s ≡ ended h at s
   unfolding runOf
   halts zero h e ne = halts-spent at s (nextOf bytes at) (ltb room 12) h e ne
@@ -90,7 +90,7 @@ module _ (bytes : List ℕ) (at : ℕ) (s : State) (room : ℕ) where
 
   leaves-none :
       (a : ℕ) →
-      ((c : Call) (next : ℕ) → nextOf bytes at ≡ Record c next → ⊥) →
+      ((c : AnyCall) (next : ℕ) → nextOf bytes at ≡ Record c next → ⊥) →
       haltedOf (isEnd (nextOf bytes at)) (eqb a 0) (ltb room 12) ≡ 0 →
       runOf a room bytes at s ≡ ended (leavesOf (nextOf bytes at)) at s
   unfolding runOf
@@ -105,10 +105,10 @@ module _ (bytes : List ℕ) (at : ℕ) (s : State) (room : ℕ) where
   leaves a o e = leaves-none a (no-record (nextOf bytes at) o) e
 
   pub plays :
-      (a : ℕ) (c : Call) (next : ℕ) →
+      (a : ℕ) (c : AnyCall) (next : ℕ) →
       nextOf bytes at ≡ Record c next →
       haltedOf (isEnd (nextOf bytes at)) (eqb a 0) (ltb room 12) ≡ 0 →
-      (runOf a room bytes at s ≡ followed c (played c s .answer) (runOf (a - 1) (room - 12) bytes next (stateOf (played c s)))) × ((0 < a) × (12 ≤ room))
+      (runOf a room bytes at s ≡ followed c (playedAt c s .answer) (runOf (a - 1) (room - 12) bytes next (siteOf (playedAt c s)))) × ((0 < a) × (12 ≤ room))
   unfolding runOf
   plays zero c next n e = let z : haltedOf false true (ltb room 12) ≡ 0 = rw n at e in absurd (omega arith)
   plays (suc a) c next n e =

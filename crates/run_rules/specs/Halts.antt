@@ -6,8 +6,8 @@ use mathlib.Core.Bool.{Bool, true, false}
 use mathlib.Core.List.{List}
 use lib.Dec.{eqb, ltb}
 use Rattle.common.specs.Choice.{if_then_else_}
-use Rattle.board_call.specs.declared.Call.{Call}
-use Rattle.board_rules.specs.Board.{State, stateOf, played}
+use Rattle.board_call.specs.declared.AnyCall.{AnyCall}
+use Rattle.board_nodes.specs.Site.{Site, siteOf, playedAt}
 use Rattle.schedule_bytes.specs.Schedule.{nextOf}
 use Rattle.schedule_bytes.specs.declared.Next.{Next}
 use Rattle.schedule_bytes.specs.declared.Next.the-variants.{Record, End, Unknown, Cut}
@@ -38,21 +38,21 @@ haltedAt a room bytes at = haltedOf (isEnd (nextOf bytes at)) (eqb a 0) (ltb roo
 -- Where that number is not 0 the run ends with it,
 abbrev pub HaltsWhereItEnds : Type 0
 HaltsWhereItEnds =
-    (a room : ℕ) (bytes : List ℕ) (at : ℕ) (s : State) →
+    (a room : ℕ) (bytes : List ℕ) (at : ℕ) (s : Site) →
     (haltedAt a room bytes at ≡ 0 → ⊥) → runOf a room bytes at s ≡ ended (haltedAt a room bytes at) at s
 
 -- where it is 0 and no record stands there, with what is left,
 abbrev pub LeavesWhereItEnds : Type 0
 LeavesWhereItEnds =
-    (a room : ℕ) (bytes : List ℕ) (at : ℕ) (s : State) →
+    (a room : ℕ) (bytes : List ℕ) (at : ℕ) (s : Site) →
     haltedAt a room bytes at ≡ 0 →
-    ((c : Call) (next : ℕ) → nextOf bytes at ≡ Record c next → ⊥) →
+    ((c : AnyCall) (next : ℕ) → nextOf bytes at ≡ Record c next → ⊥) →
     runOf a room bytes at s ≡ ended (leavesOf (nextOf bytes at)) at s
 
 -- and where it is 0 and a record stands there, the run plays it and goes on.
 abbrev pub PlaysWhereItDoesNot : Type 0
 PlaysWhereItDoesNot =
-    (a room : ℕ) (bytes : List ℕ) (at : ℕ) (s : State) (c : Call) (next : ℕ) →
+    (a room : ℕ) (bytes : List ℕ) (at : ℕ) (s : Site) (c : AnyCall) (next : ℕ) →
     haltedAt a room bytes at ≡ 0 →
     nextOf bytes at ≡ Record c next →
-    runOf a room bytes at s ≡ followed c (played c s .answer) (runOf (a - 1) (room - ENTRY) bytes next (stateOf (played c s)))
+    runOf a room bytes at s ≡ followed c (playedAt c s .answer) (runOf (a - 1) (room - ENTRY) bytes next (siteOf (playedAt c s)))

@@ -7,9 +7,9 @@ use mathlib.Core.List.{List, [], _∷_, _++_}
 use lib.Dec.{eqb, ltb}
 use lib.ListN.{length, take, drop}
 use Rattle.common.specs.Table.{Line, line, Gives, NoneApplies}
-use Rattle.board_call.specs.declared.Call.{Call}
-use Rattle.board_rules.specs.Answers.{saidOf, verbsOf}
-use Rattle.board_rules.specs.Board.{State, stateOf, played}
+use Rattle.board_call.specs.declared.AnyCall.{AnyCall}
+use Rattle.board_nodes.specs.Answers.{saidOfAny, verbsOfAny}
+use Rattle.board_nodes.specs.Site.{Site, siteOf, playedAt}
 use Rattle.schedule_bytes.specs.Schedule.{nextOf, callsFrom, placeBehind}
 use Rattle.schedule_bytes.specs.declared.Next.{Next}
 use Rattle.schedule_bytes.specs.declared.Next.the-variants.{Record, End, Unknown, Cut}
@@ -17,23 +17,23 @@ use Rattle.run_entry.specs.Entry.{ENTRY, entryOf}
 use Rattle.run_rules.specs.Run.{Whole, runOf, stateAfter, reportOf, joined}
 
 -- The board and the words after some calls, one after the other;
-unfoldable pub allPlayed : State → List Call → State
+unfoldable pub allPlayed : Site → List AnyCall → Site
 allPlayed s [] = s
-allPlayed s (c ∷ cs) = allPlayed (stateOf (played c s)) cs
+allPlayed s (c ∷ cs) = allPlayed (siteOf (playedAt c s)) cs
 
 -- their entries, each telling the answer to its call on the board that the calls before it left;
-unfoldable pub entriesFrom : State → List Call → List ℕ
+unfoldable pub entriesFrom : Site → List AnyCall → List ℕ
 entriesFrom s [] = []
-entriesFrom s (c ∷ cs) = entryOf (saidOf c (played c s .answer)) ++ entriesFrom (stateOf (played c s)) cs
+entriesFrom s (c ∷ cs) = entryOf (saidOfAny c (playedAt c s .answer)) ++ entriesFrom (siteOf (playedAt c s)) cs
 
 -- and how many verbs they sent.
-unfoldable pub verbsFrom : State → List Call → ℕ
+unfoldable pub verbsFrom : Site → List AnyCall → ℕ
 verbsFrom s [] = zero
-verbsFrom s (c ∷ cs) = verbsOf c (played c s .answer) + verbsFrom (stateOf (played c s)) cs
+verbsFrom s (c ∷ cs) = verbsOfAny c (playedAt c s .answer) + verbsFrom (siteOf (playedAt c s)) cs
 
 -- Demand D1.4: a run comes to what its records come to, played one after the other, and to nothing else. It has played as many records as it says,
 -- the first ones from its place on; board and words, entries, verbs and the place are those that these calls leave.
-pub record PlaysItsRecords (bytes : List ℕ) (at : ℕ) (s : State) (w : Whole) : Type 0 where
+pub record PlaysItsRecords (bytes : List ℕ) (at : ℕ) (s : Site) (w : Whole) : Type 0 where
   pub count : length (callsFrom (w .records) bytes at) ≡ w .records
   pub board : stateAfter w ≡ allPlayed s (callsFrom (w .records) bytes at)
   pub reported : w .entries ≡ entriesFrom s (callsFrom (w .records) bytes at)
@@ -42,7 +42,7 @@ pub record PlaysItsRecords (bytes : List ℕ) (at : ℕ) (s : State) (w : Whole)
 
 -- Of every run, whatever it ends with: with any allowance and room, on any schedule, from any place and on any board.
 abbrev pub RunPlaysItsRecords : Type 0
-RunPlaysItsRecords = (a room : ℕ) (bytes : List ℕ) (at : ℕ) (s : State) → PlaysItsRecords bytes at s (runOf a room bytes at s)
+RunPlaysItsRecords = (a room : ℕ) (bytes : List ℕ) (at : ℕ) (s : Site) → PlaysItsRecords bytes at s (runOf a room bytes at s)
 
 abbrev pub isUnknown : Next → Bool
 isUnknown Unknown = true
@@ -70,7 +70,7 @@ endLines next spent short = line 0 (atEnd next) ∷ line 11 spent ∷ line 12 sh
 -- left;
 abbrev pub EndsExactly : Type 0
 EndsExactly =
-    (a room : ℕ) (bytes : List ℕ) (at : ℕ) (s : State) (n : ℕ) →
+    (a room : ℕ) (bytes : List ℕ) (at : ℕ) (s : Site) (n : ℕ) →
     let w = runOf a room bytes at s in
     (w .ending ≡ n) ↔
     Gives n (endLines (nextOf bytes (w .place)) (eqb (a - w .records) 0) (ltb (room - ENTRY * w .records) ENTRY))
@@ -78,7 +78,7 @@ EndsExactly =
 -- and it plays a record only where none of them applies: so never more records than its allowance, nor more than its report has room for.
 abbrev pub PlaysOnlyWhereNoneEndsIt : Type 0
 PlaysOnlyWhereNoneEndsIt =
-    (a room : ℕ) (bytes : List ℕ) (at : ℕ) (s : State) (k : ℕ) →
+    (a room : ℕ) (bytes : List ℕ) (at : ℕ) (s : Site) (k : ℕ) →
     k < runOf a room bytes at s .records →
     NoneApplies (endLines (nextOf bytes (placeBehind k bytes at)) (eqb (a - k) 0) (ltb (room - ENTRY * k) ENTRY))
 
@@ -89,11 +89,11 @@ pub record Reports (report : List ℕ) (w : Whole) : Type 0 where
   pub behind : drop (ENTRY * w .records) (reportOf report w) ≡ drop (ENTRY * w .records) report
 
 abbrev pub ReportStaysBehind : Type 0
-ReportStaysBehind = (a : ℕ) (report bytes : List ℕ) (at : ℕ) (s : State) → Reports report (runOf a (length report) bytes at s)
+ReportStaysBehind = (a : ℕ) (report bytes : List ℕ) (at : ℕ) (s : Site) → Reports report (runOf a (length report) bytes at s)
 
 -- A run that stops, for whatever reason, and is taken up again at its place gives the same board, words, entries and counts as one long run.
 abbrev pub TakenUpAgain : Type 0
 TakenUpAgain =
-    (a room b room′ : ℕ) (bytes : List ℕ) (at : ℕ) (s : State) →
+    (a room b room′ : ℕ) (bytes : List ℕ) (at : ℕ) (s : Site) →
     runOf (runOf a room bytes at s .records + b) (ENTRY * runOf a room bytes at s .records + room′) bytes at s ≡
     joined (runOf a room bytes at s) (runOf b room′ bytes (runOf a room bytes at s .place) (stateAfter (runOf a room bytes at s)))

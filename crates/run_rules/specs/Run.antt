@@ -5,10 +5,10 @@ use mathlib.Core.List.{List, [], _++_}
 use lib.Dec.{ltb}
 use lib.ListN.{length, drop}
 use Rattle.agent_request.specs.declared.Request.{Request}
-use Rattle.board_call.specs.declared.Call.{Call}
-use Rattle.board_rules.specs.Answers.{saidOf, verbsOf}
+use Rattle.board_call.specs.declared.AnyCall.{AnyCall}
+use Rattle.board_nodes.specs.Answers.{saidOfAny, verbsOfAny}
 use Rattle.board_rules.specs.declared.Answer.{Answer}
-use Rattle.board_rules.specs.Board.{State, stateOf, played}
+use Rattle.board_nodes.specs.Site.{Site, siteOf, playedAt}
 use Rattle.schedule_bytes.specs.Schedule.{nextOf}
 use Rattle.schedule_bytes.specs.declared.Next.{Next}
 use Rattle.schedule_bytes.specs.declared.Next.the-variants.{Record, End, Unknown, Cut}
@@ -22,31 +22,46 @@ pub record Whole : Type 0 where
   pub place : ℕ
   pub verbs : ℕ
   pub slots : List Request
+  pub nodes : List ℕ
+  pub fenced : List Bool
   pub words : List ℕ
   pub entries : List ℕ
 
-abbrev pub stateAfter : Whole → State
-stateAfter w = record { slots = w .slots; words = w .words }
+abbrev pub stateAfter : Whole → Site
+stateAfter w = record { slots = w .slots; nodes = w .nodes; fenced = w .fenced; words = w .words }
 
 -- Rule 7.2: It ends here, before any record.
-abbrev pub ended : ℕ → ℕ → State → Whole
-ended n at s = record { ending = n; records = 0; place = at; verbs = 0; slots = s .slots; words = s .words; entries = [] }
+abbrev pub ended : ℕ → ℕ → Site → Whole
+ended n at s =
+    record {
+      ending = n;
+      records = 0;
+      place = at;
+      verbs = 0;
+      slots = s .slots;
+      nodes = s .nodes;
+      fenced = s .fenced;
+      words = s .words;
+      entries = [];
+    }
 
 -- Rules 7.3 to 7.5: One record was played, with this answer, and then the rest.
-abbrev pub followed : Call → Answer → Whole → Whole
+abbrev pub followed : AnyCall → Answer → Whole → Whole
 followed c a w =
     record {
       ending = w .ending;
       records = suc (w .records);
       place = w .place;
-      verbs = verbsOf c a + w .verbs;
+      verbs = verbsOfAny c a + w .verbs;
       slots = w .slots;
+      nodes = w .nodes;
+      fenced = w .fenced;
       words = w .words;
-      entries = entryOf (saidOf c a) ++ w .entries;
+      entries = entryOf (saidOfAny c a) ++ w .entries;
     }
 
 -- Rule 7.2: With the allowance spent: at the end of the schedule 0, else 11.
-abbrev pub spent : Next → ℕ → State → Whole
+abbrev pub spent : Next → ℕ → Site → Whole
 spent End at s = ended 0 at s
 spent (Record c next) at s = ended 11 at s
 spent Unknown at s = ended 11 at s
@@ -54,17 +69,17 @@ spent Cut at s = ended 11 at s
 
 -- Rules 7.2 and 7.3: Before each record, in this order: schedule at its end, 0; less than 12 report bytes left, 12; unknown kind, 8; body
 -- short, 7. Else the call is played, refused or not, and the run goes on.
-abbrev pub goesOn : Next → Bool → ℕ → State → (ℕ → State → Whole) → Whole
+abbrev pub goesOn : Next → Bool → ℕ → Site → (ℕ → Site → Whole) → Whole
 goesOn End short at s rest = ended 0 at s
 goesOn Unknown true at s rest = ended 12 at s
 goesOn Unknown false at s rest = ended 8 at s
 goesOn Cut true at s rest = ended 12 at s
 goesOn Cut false at s rest = ended 7 at s
 goesOn (Record c next) true at s rest = ended 12 at s
-goesOn (Record c next) false at s rest = followed c (played c s .answer) (rest next (stateOf (played c s)))
+goesOn (Record c next) false at s rest = followed c (playedAt c s .answer) (rest next (siteOf (playedAt c s)))
 
 -- Rule 7.1: The run with an allowance, the room that its report has left, the schedule, the place, and the state.
-unfoldable pub runOf : ℕ → ℕ → List ℕ → ℕ → State → Whole
+unfoldable pub runOf : ℕ → ℕ → List ℕ → ℕ → Site → Whole
 runOf zero room bytes at s = spent (nextOf bytes at) at s
 runOf (suc allowance) room bytes at s = goesOn (nextOf bytes at) (ltb room ENTRY) at s (λ next t. runOf allowance (room - ENTRY) bytes next t)
 
@@ -81,6 +96,8 @@ joined v w =
       place = w .place;
       verbs = v .verbs + w .verbs;
       slots = w .slots;
+      nodes = w .nodes;
+      fenced = w .fenced;
       words = w .words;
       entries = v .entries ++ w .entries;
     }

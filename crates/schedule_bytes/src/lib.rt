@@ -3,12 +3,13 @@
 ghost use mathlib.Core.Path.{_≡_};
 ghost use Prim.Native.Nat.{_+_, _*_, _≤_};
 ghost use lib.ListN.{length};
-ghost use Rattle.schedule_bytes.specs.Schedule.{bodyOf, callAt, nextOf};
+ghost use Rattle.schedule_bytes.specs.Schedule.{bodyOf, pairAt, callAt, nextOf};
+use board_call::AnyCall;
 use board_call::Call;
 
 pub enum Next {
     // the call, and the place after its record
-    Record(Call, usize),
+    Record(AnyCall, usize),
     End,
     Unknown,
     Cut,
@@ -23,6 +24,9 @@ pub fn body(kind: u8) -> usize
         2 => 1,
         3 => 1,
         4 => 2,
+        5 => 4,
+        6 => 1,
+        7 => 1,
         _ => 0,
     }
 }
@@ -40,17 +44,28 @@ fn pair(low: u8, high: u8) -> u64
     low as u64 + high as u64 * 256
 }
 
+// The two bytes at a place.
+fn pair_at(s: &[u8], i: usize) -> u64
+    requires { ⌜ i + 2 ≤ length (now s) ⌝ }
+    ensures { λ r. ⌜ r ≡ pairAt (now (s .entry)) i ⌝ }
+{
+    pair(s[i], s[i + 1])
+}
+
 // The call of a kind whose body begins at a place and is all there.
-fn call_at(kind: u8, s: &[u8], i: usize) -> Call
+fn call_at(kind: u8, s: &[u8], i: usize) -> AnyCall
     requires { ⌜ i + bodyOf kind ≤ length (now s) ⌝ }
     requires { ⌜ (bodyOf kind ≡ 0 → ⊥) ⌝ }
     ensures { λ r. ⌜ r ≡ callAt kind (now (s .entry)) i ⌝ }
 {
     match kind {
-        1 => Call::Open(pair(s[i], s[i + 1]), wide(s[i + 2])),
-        2 => Call::Step(wide(s[i])),
-        3 => Call::Release(wide(s[i])),
-        _ => Call::Show(pair(s[i], s[i + 1])),
+        1 => AnyCall::Base(Call::Open(pair_at(s, i), wide(s[i + 2]))),
+        2 => AnyCall::Base(Call::Step(wide(s[i]))),
+        3 => AnyCall::Base(Call::Release(wide(s[i]))),
+        4 => AnyCall::Base(Call::Show(pair_at(s, i))),
+        5 => AnyCall::OpenAs(pair_at(s, i), wide(s[i + 2]), s[i + 3]),
+        6 => AnyCall::Fence(s[i]),
+        _ => AnyCall::Care(wide(s[i])),
     }
 }
 

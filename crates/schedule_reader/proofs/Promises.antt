@@ -5,7 +5,7 @@ use mathlib.Core.Path.{_≡_, refl, ap, _∙_}
 use mathlib.Core.List.{List, [], _∷_, _++_}
 use native.Mathlib.Omega.{arith}
 use denote.Ref.{now}
-use Rattle.board_call.specs.declared.Call.{Call}
+use Rattle.board_call.specs.declared.AnyCall.{AnyCall}
 use Rattle.schedule_bytes.specs.declared.Next.{Next}
 use Rattle.schedule_bytes.specs.declared.Next.the-variants.{Record, End, Unknown, Cut}
 use Rattle.schedule_bytes.specs.Schedule.{callThen, callsFrom}
@@ -34,7 +34,7 @@ nothing-leaves-it r e = ap (at-place r) (leaves (atPlace r) (r .at) e)
 still : (n : ℕ) (r : Reader) → callIn (atPlace r) ≡ [] → readings n r ≡ []
 unfolding readings
 still zero r e = refl
-still (suc n) r e = ap (λ (l : List Call). l ++ readings n (movedOn r)) e ∙ (ap (readings n) (nothing-leaves-it r e) ∙ still n r e)
+still (suc n) r e = ap (λ (l : List AnyCall). l ++ readings n (movedOn r)) e ∙ (ap (readings n) (nothing-leaves-it r e) ∙ still n r e)
 
 -- one reading, and then n more
 one-more :
@@ -43,7 +43,7 @@ one-more :
     (x : Next) →
     atPlace r ≡ x →
     callIn x ++ readings n (at-place r (placeAfter x (r .at))) ≡ callThen x (callsFrom n (now (r .src)))
-one-more n r rest (Record c next) e = ap (λ (l : List Call). c ∷ l) (rest (at-place r next))
+one-more n r rest (Record c next) e = ap (λ (l : List AnyCall). c ∷ l) (rest (at-place r next))
 one-more n r rest End e = still n r (ap callIn e)
 one-more n r rest Unknown e = still n r (ap callIn e)
 one-more n r rest Cut e = still n r (ap callIn e)

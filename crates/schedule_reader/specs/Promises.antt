@@ -3,7 +3,7 @@ use Prim.Native.Nat.{ℕ, _+_}
 use mathlib.Core.Path.{_≡_}
 use mathlib.Core.List.{[]}
 use denote.Ref.{now}
-use Rattle.board_call.specs.declared.Call.{Call}
+use Rattle.board_call.specs.declared.AnyCall.{AnyCall}
 use Rattle.schedule_bytes.specs.declared.Next.the-variants.{Record}
 use Rattle.schedule_bytes.specs.Schedule.{bodyOf, byteAt, callsFrom}
 use Rattle.schedule_reader.specs.declared.Reader.{Reader}
@@ -16,7 +16,7 @@ HandsOutTheRecords = (n : ℕ) (r : Reader) → readings n r ≡ callsFrom n (no
 -- A record handed out moves the place by its length: the kind byte, and the body that the kind fixes.
 abbrev pub RecordMovesThePlace : Type 0
 RecordMovesThePlace =
-    (r : Reader) (c : Call) (next : ℕ) → atPlace r ≡ Record c next → movedOn r .at ≡ r .at + 1 + bodyOf (byteAt (now (r .src)) (r .at))
+    (r : Reader) (c : AnyCall) (next : ℕ) → atPlace r ≡ Record c next → movedOn r .at ≡ r .at + 1 + bodyOf (byteAt (now (r .src)) (r .at))
 
 -- Where no call is handed out the reader stays as it was.
 abbrev pub NothingLeavesIt : Type 0

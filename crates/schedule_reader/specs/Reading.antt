@@ -2,7 +2,7 @@
 use Prim.Native.Nat.{ℕ, zero, suc}
 use mathlib.Core.List.{List, [], _∷_, _++_}
 use denote.Ref.{RefT, now}
-use Rattle.board_call.specs.declared.Call.{Call}
+use Rattle.board_call.specs.declared.AnyCall.{AnyCall}
 use Rattle.schedule_bytes.specs.declared.Next.{Next}
 use Rattle.schedule_bytes.specs.declared.Next.the-variants.{Record, End, Unknown, Cut}
 use Rattle.schedule_bytes.specs.Schedule.{nextOf}
@@ -33,13 +33,13 @@ abbrev pub movedOn : Reader → Reader
 movedOn r = record { src = r .src; at = placeAfter (atPlace r) (r .at) }
 
 -- The call of a record, if one was handed out.
-abbrev pub callIn : Next → List Call
+abbrev pub callIn : Next → List AnyCall
 callIn (Record c next) = c ∷ []
 callIn End = []
 callIn Unknown = []
 callIn Cut = []
 
 -- The calls that n readings hand out, one after the other.
-unfoldable pub readings : ℕ → Reader → List Call
+unfoldable pub readings : ℕ → Reader → List AnyCall
 readings zero r = []
 readings (suc n) r = callIn (atPlace r) ++ readings n (movedOn r)

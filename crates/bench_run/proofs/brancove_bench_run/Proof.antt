@@ -30,7 +30,10 @@ returns c =
     let begun = ran .before .before .before .before .before .before in
     let made = begun .before .before in
     let a = made .before .before .before .before .args in
-    let e = same-run ENOUGH (now (a .schedule)) (now (a .report)) (now (a .words)) (made .fresh .result) (begun .begin .result .board) _ (made .fresh .ensures) (begun .begin .ensures .slots) (begun .begin .ensures .words) in
+    let f = made .fresh in
+    let e =
+    same-run ENOUGH (now (a .schedule)) (now (a .report)) (now (a .words)) (f .result) (begun .begin .result) _ (f .ensures .0) (f .ensures .1 .0)
+    (f .ensures .1 .1) (begun .begin .ensures) in
     record {
       verbs = ran .run .ensures .verbs ∙ ap (λ (w : Whole). w .verbs) e;
       words-after = ran .run .ensures .words-after ∙ ap (λ (w : Whole). w .words) e;

@@ -17,7 +17,10 @@ same-length : tie.Need-same-length
 same-length c = search needs
 
 returns : tie.Need-returns
-returns c = c .before .before .put .ensures ∙ ap (putOf (now (c .before .before .before .before .before .before .args .report)) (c .before .before .before .before .before .before .args .at)) (c .before .before .before .tell .ensures)
+returns c =
+    let p = c .before .before in
+    let a = p .before .before .before .before .args in
+    p .put .ensures ∙ ap (putOf (now (a .report)) (a .at)) (p .before .tell .ensures)
 
 pub put-waiting-spec : {M : Type 1} → statement M
 put-waiting-spec = tie.close (tie.spec tell-requires put-requires same-length returns)

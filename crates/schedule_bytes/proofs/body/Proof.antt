@@ -24,7 +24,25 @@ returns-4 c = sym (ap bodyOf (c .match .keys4))
 
 returns-5 : tie.Need-returns-5
 unfolding bodyOf
-returns-5 c = simp (ne-eqb _ _ (c .match .rest .0 .0 .0 .1), ne-eqb _ _ (c .match .rest .0 .0 .1), ne-eqb _ _ (c .match .rest .0 .1), ne-eqb _ _ (c .match .rest .1))
+returns-5 c = sym (ap bodyOf (c .match .keys5))
+
+returns-6 : tie.Need-returns-6
+unfolding bodyOf
+returns-6 c = sym (ap bodyOf (c .match .keys6))
+
+returns-7 : tie.Need-returns-7
+unfolding bodyOf
+returns-7 c = sym (ap bodyOf (c .match .keys7))
+
+returns-8 : tie.Need-returns-8
+unfolding bodyOf
+returns-8 c =
+    let r = c .match .rest in
+    let a = ne-eqb _ _ (r .0 .0 .0 .0 .0 .0 .1) in
+    let b = ne-eqb _ _ (r .0 .0 .0 .0 .0 .1) in
+    let d = ne-eqb _ _ (r .0 .0 .0 .0 .1) in
+    let e = ne-eqb _ _ (r .0 .0 .0 .1) in
+    simp (a, b, d, e, ne-eqb _ _ (r .0 .0 .1), ne-eqb _ _ (r .0 .1), ne-eqb _ _ (r .1))
 
 pub body-spec : {M : Type 1} → statement M
-body-spec = tie.close (tie.spec returns returns-2 returns-3 returns-4 returns-5)
+body-spec = tie.close (tie.spec returns returns-2 returns-3 returns-4 returns-5 returns-6 returns-7 returns-8)

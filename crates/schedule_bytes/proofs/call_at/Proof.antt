@@ -1,33 +1,24 @@
--- `schedule_bytes::call_at` meets its contract: each arm reads the body of its kind, which is all there.
+-- `schedule_bytes::call_at` meets its contract: each arm reads the body of its kind, which is all there. The last arm takes what is left, kind 7:
+-- that its body is not empty is enough for its one byte.
 -- Assumes nothing.
 use mathlib.Core.Path.{ap}
 use native.Mathlib.Omega.{arith}
 use borrow.Author.Tests.{ne-eqb}
 use Rattle.schedule_bytes.specs.Schedule.{bodyOf, callAt}
-use Rattle.schedule_bytes.proofs.Bodies.{last-body}
 use borrow.Author.Needs.{needs}
 use Rattle.schedule_bytes.proofs.call_at.Statement.{statement}
 use Rattle.schedule_bytes.proofs.call_at.Tie as tie
 
-shared-slice-read-pair : tie.Need-shared-slice-read-pair
-shared-slice-read-pair c = search needs
-
-add-pair : tie.Need-add-pair
-add-pair c = search needs
-
-shared-slice-read-pair-2 : tie.Need-shared-slice-read-pair-2
+pair-at-requires : tie.Need-pair-at-requires
 unfolding bodyOf
-shared-slice-read-pair-2 c = omega (arith, ap bodyOf (c .before .before .match .keys1))
-
-pair-requires : tie.Need-pair-requires
-pair-requires c κs = search needs
+pair-at-requires c κs = omega (arith, ap bodyOf (c .match .keys1))
 
 add-wide : tie.Need-add-wide
 add-wide c = search needs
 
 shared-slice-read-wide : tie.Need-shared-slice-read-wide
 unfolding bodyOf
-shared-slice-read-wide c = omega (arith, ap bodyOf (c .before .before .before .before .match .keys1))
+shared-slice-read-wide c = omega (arith, ap bodyOf (c .before .before .match .keys1))
 
 wide-requires : tie.Need-wide-requires
 wide-requires c κs = search needs
@@ -44,23 +35,43 @@ shared-slice-read-wide-3 c = search needs
 wide-requires-3 : tie.Need-wide-requires-3
 wide-requires-3 c κs = search needs
 
-shared-slice-read-pair-3 : tie.Need-shared-slice-read-pair-3
-shared-slice-read-pair-3 c = search needs
+pair-at-requires-2 : tie.Need-pair-at-requires-2
+unfolding bodyOf
+pair-at-requires-2 c κs = omega (arith, ap bodyOf (c .match .keys4))
 
-add-pair-2 : tie.Need-add-pair-2
-add-pair-2 c = search needs
+pair-at-requires-3 : tie.Need-pair-at-requires-3
+unfolding bodyOf
+pair-at-requires-3 c κs = omega (arith, ap bodyOf (c .match .keys5))
 
-shared-slice-read-pair-4 : tie.Need-shared-slice-read-pair-4
-shared-slice-read-pair-4 c =
-    let m = c .before .before .match in
-    omega (arith, last-body (c .before .before .before .before .args .kind) (m .rest .0 .0 .1) (m .rest .0 .1) (m .rest .1) (c .before .before .before .before .pre .1))
+add-wide-2 : tie.Need-add-wide-2
+add-wide-2 c = search needs
 
-pair-requires-2 : tie.Need-pair-requires-2
-pair-requires-2 c κs = search needs
+shared-slice-read-wide-4 : tie.Need-shared-slice-read-wide-4
+unfolding bodyOf
+shared-slice-read-wide-4 c = omega (arith, ap bodyOf (c .before .before .match .keys5))
+
+wide-requires-4 : tie.Need-wide-requires-4
+wide-requires-4 c κs = search needs
+
+add-t26 : tie.Need-add-t26
+add-t26 c = search needs
+
+shared-slice-read-t28 : tie.Need-shared-slice-read-t28
+unfolding bodyOf
+shared-slice-read-t28 c = omega (arith, ap bodyOf (c .before .before .before .before .match .keys5))
+
+shared-slice-read-t30 : tie.Need-shared-slice-read-t30
+shared-slice-read-t30 c = search needs
+
+shared-slice-read-wide-5 : tie.Need-shared-slice-read-wide-5
+shared-slice-read-wide-5 c = search needs
+
+wide-requires-5 : tie.Need-wide-requires-5
+wide-requires-5 c κs = search needs
 
 returns : tie.Need-returns
 unfolding callAt
-returns c = simp (c .before .before .before .before .before .match .keys1, c .before .before .pair .ensures, c .wide .ensures)
+returns c = simp (c .before .before .before .match .keys1, c .before .before .pair-at .ensures, c .wide .ensures)
 
 returns-2 : tie.Need-returns-2
 unfolding callAt
@@ -72,18 +83,30 @@ returns-3 c = simp (c .before .before .match .keys3, c .wide3 .ensures)
 
 returns-4 : tie.Need-returns-4
 unfolding callAt
-returns-4 c =
-    let m = c .before .before .before .match in
-    simp (ne-eqb _ _ (m .rest .0 .0 .1), ne-eqb _ _ (m .rest .0 .1), ne-eqb _ _ (m .rest .1), c .pair2 .ensures)
+returns-4 c = simp (c .before .match .keys4, c .pair-at2 .ensures)
+
+returns-5 : tie.Need-returns-5
+unfolding callAt
+returns-5 c = simp (c .before .before .before .before .match .keys5, c .before .before .before .pair-at3 .ensures, c .before .wide4 .ensures)
+
+returns-6 : tie.Need-returns-6
+unfolding callAt
+returns-6 c = simp (c .before .match .keys6)
+
+returns-7 : tie.Need-returns-7
+unfolding callAt
+returns-7 c =
+    let r = c .before .before .match .rest in
+    let a = ne-eqb _ _ (r .0 .0 .0 .0 .0 .1) in
+    let b = ne-eqb _ _ (r .0 .0 .0 .0 .1) in
+    let d = ne-eqb _ _ (r .0 .0 .0 .1) in
+    simp (a, b, d, ne-eqb _ _ (r .0 .0 .1), ne-eqb _ _ (r .0 .1), ne-eqb _ _ (r .1), c .wide5 .ensures)
 
 pub call-at-spec : {M : Type 1} → statement M
 call-at-spec =
     tie.close
     (tie.spec
-    shared-slice-read-pair
-    add-pair
-    shared-slice-read-pair-2
-    pair-requires
+    pair-at-requires
     add-wide
     shared-slice-read-wide
     wide-requires
@@ -91,11 +114,20 @@ call-at-spec =
     wide-requires-2
     shared-slice-read-wide-3
     wide-requires-3
-    shared-slice-read-pair-3
-    add-pair-2
-    shared-slice-read-pair-4
-    pair-requires-2
+    pair-at-requires-2
+    pair-at-requires-3
+    add-wide-2
+    shared-slice-read-wide-4
+    wide-requires-4
+    add-t26
+    shared-slice-read-t28
+    shared-slice-read-t30
+    shared-slice-read-wide-5
+    wide-requires-5
     returns
     returns-2
     returns-3
-    returns-4)
+    returns-4
+    returns-5
+    returns-6
+    returns-7)
