@@ -1,4 +1,5 @@
--- Demand 3 of every board that is tied to its ledger, and so after every sequence of calls. Seats.antt has why the ledger is read rightly.
+-- Demand 3 of every board that is tied to its ledger, and so after every sequence of calls. Seats.antt has why the ledger is read rightly, and
+-- what a care is.
 -- Assumes nothing.
 use Prim.Native.Nat.{ℕ, _<_, _≤_}
 use mathlib.Core.Path.{_≡_, refl, ap, sym, subst, _∙_}
@@ -23,20 +24,26 @@ use Rattle.board_call.specs.declared.Call.{Call}
 use Rattle.board_call.specs.declared.Call.the-variants.{Open, Step, Release, Show}
 use Rattle.board_rules.specs.Records.{RECORDS, isRecord}
 use Rattle.board_rules.specs.declared.Answer.{Answer}
-use Rattle.board_rules.specs.declared.Answer.the-variants.{Refused, Begun, Opened, Told, Shown}
-use Rattle.board_rules.specs.Board.{State, Done, opened, stepped, released, shown, shownOf, played}
+use Rattle.board_rules.specs.declared.Answer.the-variants.{Refused, Begun, Opened, Told, Shown, Fenced}
+use Rattle.board_rules.specs.Board.{State, Done, stateOf, opened, stepped, released, shown, shownOf, played}
+use Rattle.board_rules.specs.Care.{cared}
 use Rattle.history_promises.specs.Tickets.{Given, conflicts, ticketAt, sameKind, EarlierReleased, unreleasedBefore, AllReleased}
 use Rattle.history_promises.specs.Ledger.{Stage, Seat, Ledger, seated, ticketsNow, mine, waitsFor, isOwing, owesOn, drawn, staged, grantedOrWaits}
+use Rattle.history_promises.specs.Ledger.{blank, free}
 use Rattle.history_promises.specs.Ledger.Stage.{Nobody, Asks, Waits, Holds, Owes, Clears}
 use Rattle.history_promises.specs.Promises.{OpenTells, OpensWhereNobodySits, WriterHoldsAlone, DrawnIsGrantedExactly, WaitingIsGrantedExactly, NonePassed, FullExactly, NoneOwed, ClearedOnly, ClearedThen, CountersStaySmall, StepTells, ToldHowMany, NoneToWaitFor, Demand, Demand3}
+use Rattle.history_promises.specs.Promises.{CareCounts, careMakes, CareIsWhatItMakes, AskingLeavesNoTrace}
+use Rattle.history_promises.specs.History.{fresh, made, noted, after, events, readOff, ledgerAfter, boardAfter}
+use Rattle.history_promises.specs.History.Move.{Care}
 use Rattle.history_promises.proofs.Counts.{clash, true-or-false, below-none, none-below}
 use Rattle.history_promises.proofs.Turns.{aheadNow, few-ahead, ahead-earlier, earlier-ahead}
 use Rattle.history_promises.proofs.Words.{topped, topped-or, or-topped, clearingFor, wordAtRest, at-rest, rests, word-counted, counters-small}
-use Rattle.history_promises.proofs.Tied.{isNobody, Facts, Tied, few-owed}
+use Rattle.history_promises.proofs.Tied.{isNobody, Facts, Tied, keeps-at, few-owed}
 use Rattle.history_promises.proofs.Sent.{went, step-nobody, step-holds, step-owes, step-clears, step-waits, step-asks-full, step-asks-turn, release-nobody, release-asks, release-waits, release-owes, release-clears, release-holds}
 use Rattle.history_promises.proofs.Moves.{put-same, wordNow, clearing-last, owes-here}
-use Rattle.history_promises.proofs.Kept.{nobody-there, somebody-there, keeps-at, tied}
+use Rattle.history_promises.proofs.Kept.{nobody-there, somebody-there, tied, after-then, ledger-then}
 use Rattle.history_promises.proofs.Seats.{in-board, lent-to, facts-of, seat-has-its-ticket, ticket-has-its-seat, told-by-stage, due-exactly}
+use Rattle.history_promises.proofs.Seats.{CareIs, care-of, care-told, care-same}
 
 -- an answer that one way gives, and the other does not
 picked : (x : Bool) (d e : Done) (a : Answer) → d .answer ≡ a → (e .answer ≡ a → ⊥) → ((if x then d else e) .answer ≡ a) ↔ (x ≡ true)
@@ -50,6 +57,7 @@ isTold f (Refused n) = false
 isTold f Begun = false
 isTold f (Opened k) = false
 isTold f (Shown w) = false
+isTold f Fenced = false
 
 abbrev outcomeIs : ℕ → Tells → Bool
 outcomeIs o a = eqb (numbersOf a .outcome) o
@@ -431,3 +439,29 @@ demand-3 n some most ms = demand (tied n some most ms)
 
 pub none-to-wait-for : NoneToWaitFor
 none-to-wait-for l k i h = (ahead-earlier k l i h, earlier-ahead k l i)
+
+pub care-counts : CareCounts
+care-counts n some most ms i = care-told (tied n some most ms) i
+
+pub care-is-what-it-makes : CareIsWhatItMakes
+care-is-what-it-makes n some most ms later i =
+    let s = boardAfter n ms in
+    let L = ledgerAfter n ms in
+    let m = careMakes (L .seats i .stage) i in
+    let c = care-same (tied n some most ms) i in (
+      after-then (Care i) ms later (fresh n) ∙ ap (λ (d : Done). after (stateOf d) later) (c .0) ∙ sym (after-then m ms later (fresh n)),
+      ledger-then (Care i) ms later (fresh n) blank ∙
+          ap (λ (M : Ledger). readOff M (events (stateOf (cared i s)) later)) (c .1) ∙
+          ap (λ (d : Done). readOff (noted m (made m s .answer) L) (events (stateOf d) later)) (c .0) ∙
+          sym (ledger-then m ms later (fresh n) blank),
+    )
+
+pub asking-leaves-no-trace : AskingLeavesNoTrace
+unfolding after events readOff
+asking-leaves-no-trace n some most ms i e =
+    let c = subst (CareIs (boardAfter n ms) i) e (care-of (tied n some most ms) i) in
+    let l : ledgerAfter n (ms ++ Care i ∷ []) ≡ seated (ledgerAfter n ms) i free = ledger-then (Care i) ms [] (fresh n) blank ∙ rw c refl in (
+      ap (λ (x : State). x .words) (after-then (Care i) ms [] (fresh n)) ∙ ap (λ (d : Done). d .words) c,
+      ap (λ (M : Ledger). M .tickets) l,
+      ap (λ (M : Ledger). M .seats i) l ∙ put-same (ledgerAfter n ms .seats) i free,
+    )

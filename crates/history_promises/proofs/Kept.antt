@@ -1,4 +1,5 @@
--- Every call keeps board and ledger tied, a fresh board and a blank ledger are tied, and so they are after every sequence of calls.
+-- Every call keeps board and ledger tied, a fresh board and a blank ledger are tied, and so they are after every sequence of calls. A care keeps
+-- them as the step or the release that it is.
 -- Assumes nothing.
 use Prim.Native.Nat.{ℕ, zero, suc, _<_, _≤_}
 use mathlib.Core.Path.{_≡_, refl, ap, sym, subst, _∙_}
@@ -22,43 +23,43 @@ use Rattle.board_slots.proofs.Promises.{lowest-is-free, lower-are-used}
 use Rattle.board_call.specs.declared.Call.the-variants.{Open, Step, Release, Show}
 use Rattle.board_rules.specs.Records.{RECORDS, isRecord}
 use Rattle.board_rules.specs.Board.{State, Done, stateOf, slotAt, begun, opened, stepped, released, shown}
+use Rattle.board_rules.specs.Care.{cared}
 use Rattle.history_promises.specs.Tickets.{Given, ticketAt}
 use Rattle.history_promises.specs.Ledger.{Stage, Seat, Ledger, free, blank, put, seated, staged, mine, drawn, grantedOrWaits, notedCall, begunWith, one, isOwing, owesOn, owed}
+use Rattle.history_promises.specs.Ledger.{notedCare}
 use Rattle.history_promises.specs.Ledger.Stage.{Nobody, Asks, Waits, Holds, Owes, Clears}
 use Rattle.history_promises.specs.History.{Move, fresh, made, after, events, noted, readOff, ledgerAfter, boardAfter}
-use Rattle.history_promises.specs.History.Move.{Begin, Do}
+use Rattle.history_promises.specs.History.Move.{Begin, Do, Care}
+use Rattle.history_promises.specs.Promises.{careMakes}
 use Rattle.history_promises.proofs.Counts.{clash, true-or-false, below-put, none-below}
 use Rattle.history_promises.proofs.Turns.{aheadNow, ahead-earlier}
 use Rattle.history_promises.proofs.Words.{topped, clearingFor, wordAtRest, agrees-same, agrees-empty}
 use Rattle.history_promises.proofs.Tied.{modeNumber, withTicket, requestFor, isNobody, hasTicket, mayClear, Tied, Change, tied-after}
+use Rattle.history_promises.proofs.Tied.{keeps-at, lent-at}
 use Rattle.history_promises.proofs.Sent.{wentTo, step-nobody, step-holds, step-owes, step-clears, step-waits, step-asks-full, step-asks-turn, release-nobody, release-asks, release-waits, release-owes, release-clears, release-holds}
 use Rattle.history_promises.proofs.Moves.{put-same, put-other, none-topped, wordNow, owes-nothing, clearing-last, tied-went, facts-at, full-moved, withdrawn-moved, waits-moved, granted-moved, drawn-moved, drawn-owns, released-moved, due-moved, cleared-moved}
+use Rattle.history_promises.proofs.Moves.{unasked-moved}
+use Rattle.history_promises.proofs.Seats.{in-board, lent-to, CareIs, care-of, care-same}
 
--- what a slot keeps, at the stage that its seat has
+-- a step of a slot, at the stage that its seat has
 module _ {n : ℕ} {s : State} {L : Ledger} (T : Tied n s L) (i : ℕ) (here : i < SLOTS) where
-  pub keeps-at : (g : Stage) → L .seats i .stage ≡ g → slotAt s i ≡ requestFor g (L .seats i) (mine L i)
-  keeps-at g e = T .sits i here .keeps ∙ ap (λ (x : Stage). requestFor x (L .seats i) (mine L i)) e
-
-  pub lent-at : (g : Stage) → L .seats i .stage ≡ g → isNobody g ≡ false → L .seats i .about < n
-  lent-at g e f = ⊎-elim (λ h. clash (isNobody (L .seats i .stage)) h (ap isNobody e ∙ f)) (λ h. h) (T .sits i here .lent)
-
   abbrev StepKeeps : Done → Type 0
   StepKeeps d = Tied n (stateOf d) (notedCall (Step i) (d .answer) L)
 
   step-kept-at : (g : Stage) → L .seats i .stage ≡ g → StepKeeps (stepped i s)
-  step-kept-at Nobody e = subst StepKeeps (sym (step-nobody s i here (keeps-at Nobody e))) T
-  step-kept-at Holds e = subst StepKeeps (sym (step-holds s i here (L .seats i) (mine L i) (keeps-at Holds e))) T
+  step-kept-at Nobody e = subst StepKeeps (sym (step-nobody s i here (keeps-at T i here Nobody e))) T
+  step-kept-at Holds e = subst StepKeeps (sym (step-holds s i here (L .seats i) (mine L i) (keeps-at T i here Holds e))) T
   step-kept-at Owes e =
-      let lent = lent-at Owes e refl in
-      subst StepKeeps (sym (step-owes s i here (L .seats i) (mine L i) (omega (arith, T .words-long)) (omega (arith, T .most)) (keeps-at Owes e)))
+      let lent = lent-at T i here Owes e refl in
+      subst StepKeeps (sym (step-owes s i here (L .seats i) (mine L i) (omega (arith, T .words-long)) (omega (arith, T .most)) (keeps-at T i here Owes e)))
       (tied-went T i here lent _ _ _ (withdrawn-moved T i here lent e))
   step-kept-at Asks e =
-      let lent = lent-at Asks e refl in
+      let lent = lent-at T i here Asks e refl in
       let inside : L .seats i .about < length (s .words) = omega (arith, T .words-long) in
       let small : L .seats i .about < 4096 = omega (arith, T .most) in
       let a = T .agrees (L .seats i .about) lent in
       let longer = mine L i ++ record { kind = L .seats i .kind; slot = i; released = false } ∷ [] in
-      let at = keeps-at Asks e in
+      let at = keeps-at T i here Asks e in
       ⊎-elim
       (λ top. subst StepKeeps (sym (step-asks-full s i here (L .seats i) (mine L i) inside small a at top)) (tied-went T i here lent _ _ _ (full-moved T i here lent e top)))
       (λ low.
@@ -78,9 +79,11 @@ module _ {n : ℕ} {s : State} {L : Ledger} (T : Tied n s L) (i : ℕ) (here : i
       at-last : Stage → Seat
       at-last g = record { stage = g; about = L .seats i .about; kind = L .seats i .kind; place = length (mine L i) }
   step-kept-at Waits e =
-      let lent = lent-at Waits e refl in
+      let at = keeps-at T i here Waits e in
+      let lent = lent-at T i here Waits e refl in
       let own = facts-at T i here lent Waits e in
-      subst StepKeeps (sym (step-waits s i here (L .seats i) (mine L i) (omega (arith, T .words-long)) (omega (arith, T .most)) (T .agrees (L .seats i .about) lent) (keeps-at Waits e) own))
+      let agrees = T .agrees (L .seats i .about) lent in
+      subst StepKeeps (sym (step-waits s i here (L .seats i) (mine L i) (omega (arith, T .words-long)) (omega (arith, T .most)) agrees at own))
       (either-by StepKeeps (eqb (aheadNow (L .seats i .kind) (mine L i) (L .seats i .place)) 0)
       (λ z.
       subst (λ (g : Stage). Tied n (wentTo s i (L .seats i .about) (withTicket Held (L .seats i) (mine L i)) (wordNow s L i)) (grantedOrWaits g i Holds L)) (sym e)
@@ -90,17 +93,18 @@ module _ {n : ℕ} {s : State} {L : Ledger} (T : Tied n s L) (i : ℕ) (here : i
       subst (λ (g : Stage). Tied n (wentTo s i (L .seats i .about) (withTicket Waiting (L .seats i) (mine L i)) (wordNow s L i)) (grantedOrWaits g i Waits L)) (sym e)
       (tied-went T i here lent _ _ _ (waits-moved T i here lent e))))
   step-kept-at Clears e =
-      let lent = lent-at Clears e refl in
+      let at = keeps-at T i here Clears e in
+      let lent = lent-at T i here Clears e refl in
       let closing = facts-at T i here lent Clears e in
       let rest = clearing-last (mine L i) (L .seats i .place) (closing .final) (closing .top) in
-      subst StepKeeps (sym (step-clears s i here (L .seats i) (mine L i) (omega (arith, T .words-long)) (omega (arith, T .most)) (keeps-at Clears e) rest))
+      subst StepKeeps (sym (step-clears s i here (L .seats i) (mine L i) (omega (arith, T .words-long)) (omega (arith, T .most)) at rest))
       (either-by StepKeeps (eqb (wordNow s L i) (wordAtRest (mine L i)))
       (λ z. tied-went T i here lent _ _ _ (cleared-moved T i here lent e (eqb-true (wordNow s L i) (wordAtRest (mine L i)) z)))
       (λ z. subst (λ (x : State). Tied n x L) (sym (same-state Clears e)) T))
     where
       same-state : (g : Stage) → L .seats i .stage ≡ g → wentTo s i (L .seats i .about) (requestFor g (L .seats i) (mine L i)) (wordNow s L i) ≡ s
       same-state g e =
-          ap (λ (q : Request). wentTo s i (L .seats i .about) q (wordNow s L i)) (sym (keeps-at g e)) ∙
+          ap (λ (q : Request). wentTo s i (L .seats i .about) q (wordNow s L i)) (sym (keeps-at T i here g e)) ∙
           rw (set-getD (s .slots) i freeRequest, set-getD (s .words) (L .seats i .about) 0) refl
 
   -- the same of a release
@@ -108,14 +112,15 @@ module _ {n : ℕ} {s : State} {L : Ledger} (T : Tied n s L) (i : ℕ) (here : i
   ReleaseKeeps d = Tied n (stateOf d) (notedCall (Release i) (d .answer) L)
 
   release-kept-at : (g : Stage) → L .seats i .stage ≡ g → ReleaseKeeps (released i s)
-  release-kept-at Nobody e = subst ReleaseKeeps (sym (release-nobody s i here (keeps-at Nobody e))) T
-  release-kept-at Asks e = subst ReleaseKeeps (sym (release-asks s i here (L .seats i) (mine L i) (keeps-at Asks e))) T
-  release-kept-at Waits e = subst ReleaseKeeps (sym (release-waits s i here (L .seats i) (mine L i) (keeps-at Waits e))) T
-  release-kept-at Owes e = subst ReleaseKeeps (sym (release-owes s i here (L .seats i) (mine L i) (keeps-at Owes e))) T
-  release-kept-at Clears e = subst ReleaseKeeps (sym (release-clears s i here (L .seats i) (mine L i) (keeps-at Clears e))) T
+  release-kept-at Nobody e = subst ReleaseKeeps (sym (release-nobody s i here (keeps-at T i here Nobody e))) T
+  release-kept-at Asks e = subst ReleaseKeeps (sym (release-asks s i here (L .seats i) (mine L i) (keeps-at T i here Asks e))) T
+  release-kept-at Waits e = subst ReleaseKeeps (sym (release-waits s i here (L .seats i) (mine L i) (keeps-at T i here Waits e))) T
+  release-kept-at Owes e = subst ReleaseKeeps (sym (release-owes s i here (L .seats i) (mine L i) (keeps-at T i here Owes e))) T
+  release-kept-at Clears e = subst ReleaseKeeps (sym (release-clears s i here (L .seats i) (mine L i) (keeps-at T i here Clears e))) T
   release-kept-at Holds e =
-      let lent = lent-at Holds e refl in
-      subst ReleaseKeeps (sym (release-holds s i here (L .seats i) (mine L i) (omega (arith, T .words-long)) (omega (arith, T .most)) (keeps-at Holds e)))
+      let at = keeps-at T i here Holds e in
+      let lent = lent-at T i here Holds e refl in
+      subst ReleaseKeeps (sym (release-holds s i here (L .seats i) (mine L i) (omega (arith, T .words-long)) (omega (arith, T .most)) at))
       (either-by ReleaseKeeps (eqb (clearingFor (mine L i) (L .seats i .place)) 0)
       (λ z. tied-went T i here lent _ _ _ (released-moved T i here lent e free refl (eqb-true (clearingFor (mine L i) (L .seats i .place)) 0 z)))
       (λ z. tied-went T i here lent _ _ _ (due-moved T i here lent e (staged Clears (L .seats i)) refl (eqb-false (clearingFor (mine L i) (L .seats i .place)) 0 z))))
@@ -137,6 +142,29 @@ module _ {n : ℕ} {s : State} {L : Ledger} (T : Tied n s L) where
       by : (x : Bool) → leb SLOTS i ≡ x → Tied n (stateOf (released i s)) (notedCall (Release i) (released i s .answer) L)
       by true e = rw e T
       by false e = release-kept-at T i (leb-false SLOTS i e) (L .seats i .stage) refl
+
+  -- a care is one of them, or frees a slot that asks
+  care-kept : (i : ℕ) → Tied n (stateOf (cared i s)) (notedCare i (cared i s .answer) L)
+  care-kept i =
+      let m = careMakes (L .seats i .stage) i in
+      let same = care-same T i in
+      subst (Tied n (stateOf (cared i s))) (sym (same .1))
+      (subst (λ (d : Done). Tied n (stateOf d) (noted m (made m s .answer) L)) (sym (same .0)) (by (L .seats i .stage) refl))
+    where
+      freed : L .seats i .stage ≡ Asks → Tied n (record { slots = set (s .slots) i freeRequest; words = s .words }) (seated L i free)
+      freed e =
+          let lent = lent-to T i Asks e refl in
+          let here = in-board T i Asks e refl in
+          subst (λ (w : List ℕ). Tied n (record { slots = set (s .slots) i freeRequest; words = w }) (seated L i free))
+          (set-getD (s .words) (L .seats i .about) 0) (tied-went T i here lent _ _ _ (unasked-moved T i here lent e))
+
+      by : (g : Stage) → L .seats i .stage ≡ g → Tied n (stateOf (made (careMakes g i) s)) (noted (careMakes g i) (made (careMakes g i) s .answer) L)
+      by Nobody e = step-kept i
+      by Asks e = subst (λ (d : Done). Tied n (stateOf d) (notedCare i (d .answer) L)) (sym (subst (CareIs s i) e (care-of T i))) (freed e)
+      by Waits e = step-kept i
+      by Holds e = release-kept i
+      by Owes e = step-kept i
+      by Clears e = step-kept i
 
   show-kept : (r : ℕ) → Tied n (stateOf (shown r s)) L
   unfolding shown
@@ -261,6 +289,7 @@ kept T (Do (Open r m)) = open-kept T r m
 kept T (Do (Step i)) = step-kept T i
 kept T (Do (Release i)) = release-kept T i
 kept T (Do (Show r)) = show-kept T r
+kept T (Care i) = care-kept T i
 
 -- Any relation between a board and a ledger that every call keeps holds after every sequence of calls, if it holds before it.
 pub always :
@@ -272,3 +301,17 @@ always R step (m ∷ ms) s L r = always R step ms (stateOf (made m s)) (noted m 
 
 pub tied : (n : ℕ) → 1 ≤ n → n ≤ 4096 → (ms : List Move) → Tied n (boardAfter n ms) (ledgerAfter n ms)
 tied n some most ms = always (Tied n) (λ s L m T. kept T m) ms (fresh n) blank (tied-fresh n some most)
+
+-- The board and the ledger after some calls, one more, and the later ones.
+pub after-then : (m : Move) (ms later : List Move) (s : State) → after s (ms ++ m ∷ later) ≡ after (stateOf (made m (after s ms))) later
+unfolding after
+after-then m [] later s = refl
+after-then m (x ∷ ms) later s = after-then m ms later (stateOf (made x s))
+
+pub ledger-then :
+    (m : Move) (ms later : List Move) (s : State) (L : Ledger) →
+    readOff L (events s (ms ++ m ∷ later)) ≡
+    readOff (noted m (made m (after s ms) .answer) (readOff L (events s ms))) (events (stateOf (made m (after s ms))) later)
+unfolding after events readOff
+ledger-then m [] later s L = refl
+ledger-then m (x ∷ ms) later s L = ledger-then m ms later (stateOf (made x s)) (noted x (made x s .answer) L)

@@ -7,8 +7,8 @@ pub mod Tied
 pub mod Others
 pub mod Sent
 pub mod Moves
-pub mod Kept
 pub mod Seats
+pub mod Kept
 pub mod Demand
 pub mod Stories
 pub mod Empty

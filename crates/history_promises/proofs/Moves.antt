@@ -1,4 +1,4 @@
--- Every accepted step and release keeps board and ledger tied.
+-- Every accepted step and release keeps board and ledger tied, and so does the care of a slot that asks.
 -- Assumes nothing.
 use Prim.Native.Nat.{ℕ, suc, _+_, _<_, _≤_}
 use mathlib.Core.Path.{_≡_, refl, ap, sym, subst, _∙_}
@@ -188,14 +188,27 @@ module _ {n : ℕ} {s : State} {L : Ledger} (T : Tied n s L) (i : ℕ) (here : i
       (λ h. clash (hasTicket (L .seats i .stage)) h (ap hasTicket e))
       (λ h. clash (mayClear (L .seats i .stage)) h (ap mayClear e))
 
-  -- a withdrawal
+  -- a slot that has no ticket is freed
+  freed-moved :
+      (g : Stage) → L .seats i .stage ≡ g → hasTicket g ≡ false → mayClear g ≡ false →
+      (w : ℕ) → Agrees (mine L i) (owed (put (L .seats) i free) (L .seats i .about)) w →
+      Moved n L (seated L i free) i freeRequest w
+  freed-moved g e has may w agrees =
+      seat-moved free (inl refl) freeRequest w (record { keeps = refl; lent = inl refl; facts = tt }) agrees
+      (λ h. clash (hasTicket (L .seats i .stage)) h (ap hasTicket e ∙ has))
+      (λ h. clash (mayClear (L .seats i .stage)) h (ap mayClear e ∙ may))
+
+  -- by a withdrawal
   pub withdrawn-moved : L .seats i .stage ≡ Owes → Moved n L (seated L i free) i freeRequest (addOf (wordNow s L i) (backOf (ticketCounter (L .seats i .kind))))
   withdrawn-moved e =
-      seat-moved free (inl refl) freeRequest (addOf (wordNow s L i) (backOf (ticketCounter (L .seats i .kind))))
-      (record { keeps = refl; lent = inl refl; facts = tt })
+      freed-moved Owes e refl refl (addOf (wordNow s L i) (backOf (ticketCounter (L .seats i .kind))))
       (agrees-back (T .agrees (L .seats i .about) lent) (L .seats i .kind) (owed (put (L .seats) i free) (L .seats i .about)) (owed-less free (ap isOwing e) refl))
-      (λ h. clash (hasTicket (L .seats i .stage)) h (ap hasTicket e))
-      (λ h. clash (mayClear (L .seats i .stage)) h (ap mayClear e))
+
+  -- by a care, before it has asked
+  pub unasked-moved : L .seats i .stage ≡ Asks → Moved n L (seated L i free) i freeRequest (wordNow s L i)
+  unasked-moved e =
+      freed-moved Asks e refl refl (wordNow s L i)
+      (agrees-same (T .agrees (L .seats i .about) lent) (owed (put (L .seats) i free) (L .seats i .about)) (owed-same free (ap isOwing e) refl))
 
   -- a waiting slot looks again
   pub waits-moved : L .seats i .stage ≡ Waits → Moved n L (seated L i (staged Waits (L .seats i))) i (withTicket Waiting (L .seats i) (mine L i)) (wordNow s L i)

@@ -1,4 +1,5 @@
--- That the ledger is read rightly: what ties it to the board says so, and what a step or a release comes to at each stage is known.
+-- That the ledger is read rightly: what ties it to the board says so, and what a step or a release comes to at each stage is known. So is which
+-- of them a care is, and that it is noted as that.
 -- Assumes nothing.
 use Prim.Native.Nat.{ℕ, zero, suc, _<_, _≤_}
 use mathlib.Core.Path.{_≡_, refl, ap, sym, subst, _∙_}
@@ -8,29 +9,33 @@ use mathlib.Core.List.{[], _∷_, _++_}
 use native.Mathlib.Omega.{arith}
 use borrow.Author.Tests.{leb-true, leb-false, ltb-false, eqb-false, ne-eqb}
 use lib.Dec.{eqb, leb, ltb}
-use lib.ListN.{length}
+use lib.ListN.{length, set}
 use Rattle.common.specs.Choice.{if_then_else_}
 use Rattle.common.proofs.Choices.{either-by}
 use Rattle.agent_ticket.specs.declared.Mode.{Mode}
 use Rattle.agent_ticket.specs.declared.Mode.the-variants.{Reader, Writer}
+use Rattle.agent_request.specs.Request.{freeRequest}
 use Rattle.agent_rules.specs.declared.Answer.the-variants as tells
 use Rattle.board_slots.specs.Slots.{SLOTS}
 use Rattle.board_rules.specs.Records.{RECORDS}
 use Rattle.board_rules.specs.declared.Answer.{Answer}
-use Rattle.board_rules.specs.declared.Answer.the-variants.{Refused, Begun, Opened, Told, Shown}
+use Rattle.board_rules.specs.declared.Answer.the-variants.{Refused, Begun, Opened, Told, Shown, Fenced}
 use Rattle.board_rules.specs.Board.{State, Done, stepped, released, stateOf, played, begun}
-use Rattle.history_promises.specs.History.{fresh}
+use Rattle.board_rules.specs.Care.{cared}
+use Rattle.board_rules.proofs.Care.{care-releases, care-steps}
+use Rattle.history_promises.specs.History.{Move, fresh, made, noted}
 use Rattle.history_promises.specs.Tickets.{Given, ticketAt}
-use Rattle.history_promises.specs.Ledger.{Stage, Ledger, mine}
+use Rattle.history_promises.specs.Ledger.{Stage, Ledger, mine, notedCare}
 use Rattle.history_promises.specs.Ledger.Stage.{Nobody, Asks, Waits, Holds, Owes, Clears}
 use Rattle.history_promises.specs.Promises.{HasTicket, SeatHasItsTicket, TicketHasItsSeat, StepTells, ReleaseTells, ToldByStage, DueExactly, BegunIsFresh}
+use Rattle.history_promises.specs.Promises.{CareTells, careMakes}
 use Rattle.history_promises.proofs.Counts.{clash, true-or-false}
 use Rattle.history_promises.proofs.Turns.{aheadNow}
 use Rattle.history_promises.proofs.Words.{topped, topped-or, or-topped, clearingFor, wordAtRest, rest-is-some}
-use Rattle.history_promises.proofs.Tied.{Owns, Facts, Tied, isNobody, hasTicket}
+use Rattle.history_promises.proofs.Tied.{Owns, Facts, Tied, isNobody, hasTicket, keeps-at, lent-at}
 use Rattle.history_promises.proofs.Sent.{step-nobody, step-holds, step-owes, step-clears, step-waits, step-asks-full, step-asks-turn, release-nobody, release-asks, release-waits, release-owes, release-clears, release-holds}
+use Rattle.history_promises.proofs.Sent.{phase-of, care-nobody, care-asks}
 use Rattle.history_promises.proofs.Moves.{wordNow, clearing-last, clearing-closes, facts-at}
-use Rattle.history_promises.proofs.Kept.{keeps-at, lent-at}
 
 same-parts : {k k′ : Mode} {i i′ : ℕ} {b b′ : Bool} → k ≡ k′ → i ≡ i′ → b ≡ b′ → _≡_ {A = Given} (record { kind = k; slot = i; released = b }) (record { kind = k′; slot = i′; released = b′ })
 same-parts p q r = cc
@@ -42,6 +47,19 @@ has-or Nobody e = clash false e refl
 has-or Asks e = clash false e refl
 has-or Owes e = clash false e refl
 has-or Clears e = clash false e refl
+
+-- which move the care of the slot i is, by its stage
+abbrev pub CareIs : State → ℕ → Stage → Type 0
+CareIs s i Nobody = cared i s ≡ stepped i s
+CareIs s i Asks = cared i s ≡ record { slots = set (s .slots) i freeRequest; words = s .words; answer = Told tells.FreedUnasked }
+CareIs s i Waits = cared i s ≡ stepped i s
+CareIs s i Holds = cared i s ≡ released i s
+CareIs s i Owes = cared i s ≡ stepped i s
+CareIs s i Clears = cared i s ≡ stepped i s
+
+-- it leaves the board that this move leaves, and is noted as this move is
+abbrev pub SameAs : State → Ledger → ℕ → Move → Type 0
+SameAs s L i m = (cared i s ≡ made m s) × (notedCare i (cared i s .answer) L ≡ noted m (made m s .answer) L)
 
 module _ {n : ℕ} {s : State} {L : Ledger} (T : Tied n s L) where
   -- a slot at a stage is one of the 256
@@ -138,12 +156,59 @@ module _ {n : ℕ} {s : State} {L : Ledger} (T : Tied n s L) where
       by true e = rw (T .beyond i (leb-true SLOTS i e), e) (inl refl, inl refl)
       by false e = let here = leb-false SLOTS i e in (step-told i here (L .seats i .stage) refl, release-told i here (L .seats i .stage) refl)
 
+  -- the stage tells the phase, and the phase what a care does
+  care-at : (i : ℕ) → i < SLOTS → (g : Stage) → L .seats i .stage ≡ g → CareIs s i g
+  care-at i here Nobody e = let k = keeps-at T i here Nobody e in care-nobody s i here k ∙ sym (step-nobody s i here k)
+  care-at i here Asks e =
+      let lent = lent-to i Asks e refl in
+      care-asks s i here (L .seats i) (mine L i) (omega (arith, T .words-long)) (omega (arith, T .most)) (keeps-at T i here Asks e)
+  care-at i here Waits e = care-steps i s .0 (ap phase-of (keeps-at T i here Waits e))
+  care-at i here Holds e = care-releases i s (ap phase-of (keeps-at T i here Holds e))
+  care-at i here Owes e = care-steps i s .1 (ap phase-of (keeps-at T i here Owes e))
+  care-at i here Clears e = care-steps i s .2 (ap phase-of (keeps-at T i here Clears e))
+
+  pub care-of : (i : ℕ) → CareIs s i (L .seats i .stage)
+  unfolding cared stepped
+  care-of i = by (leb SLOTS i) refl
+    where
+      by : (x : Bool) → leb SLOTS i ≡ x → CareIs s i (L .seats i .stage)
+      by true e = rw (T .beyond i (leb-true SLOTS i e), e) refl
+      by false e = care-at i (leb-false SLOTS i e) (L .seats i .stage) refl
+
+  -- what it is told,
+  pub care-told : (i : ℕ) → CareTells (L .seats i .stage) (cared i s .answer) (stepped i s .answer) (released i s .answer)
+  care-told i = by (L .seats i .stage) (care-of i) (told-by-stage i .0)
+    where
+      answers : {d : Done} → cared i s ≡ d → cared i s .answer ≡ d .answer
+      answers c = ap (λ (d : Done). d .answer) c
+
+      by : (g : Stage) → CareIs s i g → StepTells g (stepped i s .answer) → CareTells g (cared i s .answer) (stepped i s .answer) (released i s .answer)
+      by Nobody c t = subst (StepTells Nobody) (sym (answers c)) t
+      by Asks c t = answers c
+      by Waits c t = answers c
+      by Holds c t = answers c
+      by Owes c t = answers c
+      by Clears c t = answers c
+
+  -- and which move it is the same as
+  pub care-same : (i : ℕ) → SameAs s L i (careMakes (L .seats i .stage) i)
+  care-same i = let t = told-by-stage i in by (L .seats i .stage) (care-of i) (t .0) (t .1)
+    where
+      by : (g : Stage) → CareIs s i g → StepTells g (stepped i s .answer) → ReleaseTells g (released i s .answer) → SameAs s L i (careMakes g i)
+      by Nobody c t u = (c, rw c (⊎-elim (λ q. rw q refl) (λ q. rw q refl) t))
+      by Asks c t u = (refl, refl)
+      by Waits c t u = (c, rw c (⊎-elim (λ q. rw q refl) (λ q. rw (q .1) refl) t))
+      by Holds c t u = (c, rw c (⊎-elim (λ q. rw q refl) (λ q. rw q refl) u))
+      by Owes c t u = (c, rw c (rw t refl))
+      by Clears c t u = (c, rw c (⊎-elim (λ q. rw q refl) (λ q. rw q refl) t))
+
 abbrev isBegun : Answer → Bool
 isBegun Begun = true
 isBegun (Refused n) = false
 isBegun (Opened k) = false
 isBegun (Told a) = false
 isBegun (Shown w) = false
+isBegun Fenced = false
 
 pub begun-is-fresh : BegunIsFresh
 unfolding begun

@@ -1,4 +1,4 @@
--- What a step or a release of a slot comes to, by its seat: the request, the word and the answer afterwards.
+-- What a step or a release of a slot comes to, by its seat: the request, the word and the answer afterwards. So too a care where it is neither.
 -- Assumes nothing.
 use Prim.Native.Nat.{ℕ, _<_}
 use mathlib.Core.Path.{_≡_, refl, ap, sym, _∙_}
@@ -17,8 +17,9 @@ use Rattle.agent_ticket.specs.Promises.{behind}
 use Rattle.agent_ceiling.specs.Ceiling.{fullAt, clearingWordOf}
 use Rattle.agent_ticket.specs.declared.Mode.{Mode}
 use Rattle.agent_ticket.specs.declared.Mode.the-variants.{Reader, Writer}
-use Rattle.agent_request.specs.Request.{inUse, phaseNumber, modeOf, freeRequest, inPhase}
+use Rattle.agent_request.specs.Request.{inUse, phaseNumber, phaseOf, modeOf, freeRequest, inPhase}
 use Rattle.agent_request.specs.declared.Request.{Request}
+use Rattle.agent_request.specs.declared.Phase.{Phase}
 use Rattle.agent_request.specs.declared.Phase.the-variants.{Asking, Waiting, Held, Owing, Clearing}
 use Rattle.agent_rules.specs.Life.{leftBy, ticketCounter, releaseCounter, stepSends, releaseSends, stepTakes, releaseTakes, asked, waited, ticketed, turned, becomes}
 use Rattle.agent_rules.specs.declared.Answer.{Answer as Tells}
@@ -29,6 +30,8 @@ use Rattle.board_slots.specs.Slots.{SLOTS}
 use Rattle.board_rules.specs.Records.{isNothing, refusalOf}
 use Rattle.board_rules.specs.declared.Answer.the-variants.{Told}
 use Rattle.board_rules.specs.Board.{State, Done, slotAt, sent, stepped, released, refused}
+use Rattle.board_rules.specs.Care.{cared}
+use Rattle.board_rules.proofs.Care.{care-frees}
 use Rattle.history_promises.specs.Tickets.{Given, pastTheLast, givenOf}
 use Rattle.history_promises.specs.Ledger.{Stage, Seat}
 use Rattle.history_promises.specs.Ledger.Stage.{Asks, Waits, Holds, Owes, Clears}
@@ -36,6 +39,9 @@ use Rattle.history_promises.proofs.Order.{append-ordered}
 use Rattle.history_promises.proofs.Turns.{ticketOf, drawnAt, aheadNow, turn-law}
 use Rattle.history_promises.proofs.Words.{Agrees, topped, clearingFor, wordAtRest, full-topped, clearing-drawn, released-more}
 use Rattle.history_promises.proofs.Tied.{modeNumber, withTicket, requestFor, Owns}
+
+abbrev pub phase-of : Request → Phase
+phase-of q = phaseOf (q .phase)
 
 -- a verb was sent for the slot i, on the record r: the request, the word and what is told afterwards
 abbrev pub went : State → ℕ → ℕ → Request → ℕ → Tells → Done
@@ -95,6 +101,10 @@ module _ (s : State) (i : ℕ) (here : i < SLOTS) where
   pub release-nobody : slotAt s i ≡ freeRequest → released i s ≡ refused 4 s
   release-nobody e = release-of freeRequest e ∙ sent-free freeRequest (releaseSends freeRequest) (releaseTakes freeRequest) refl
 
+  pub care-nobody : slotAt s i ≡ freeRequest → cared i s ≡ refused 4 s
+  unfolding cared
+  care-nobody e = rw (lt-leb SLOTS i here, e) refl
+
   pub step-holds : (t : Seat) (l : List Given) → slotAt s i ≡ requestFor Holds t l → stepped i s ≡ refused 5 s
   unfolding stepSends
   step-holds t l e = step-of (requestFor Holds t l) e ∙ sent-refused (requestFor Holds t l) (stepSends (requestFor Holds t l)) (stepTakes (requestFor Holds t l)) refl refl
@@ -126,6 +136,13 @@ module _ (s : State) (i : ℕ) (here : i < SLOTS) where
         step-of (requestFor Owes t l) e ∙
         sent-accepted (requestFor Owes t l) (stepSends (requestFor Owes t l)) (stepTakes (requestFor Owes t l)) refl refl lent small ∙
         rw (mode-number (t .kind)) refl
+
+    -- a care before the slot has asked
+    pub care-asks :
+        slotAt s i ≡ requestFor Asks t l →
+        cared i s ≡ record { slots = set (s .slots) i freeRequest; words = s .words; answer = Told tells.FreedUnasked }
+    care-asks e =
+        care-frees i s here (ap phase-of e) (rw (e, lt-ltb (t .about) (length (s .words)) lent, lt-ltb (t .about) 4096 small) refl)
 
     -- a slot that clears
     pub step-clears :

@@ -16,9 +16,9 @@ use Rattle.agent_request.specs.declared.Request.{Request}
 use Rattle.agent_request.specs.declared.Phase.{Phase}
 use Rattle.agent_request.specs.declared.Phase.the-variants.{Waiting, Held, Owing, Clearing}
 use Rattle.board_slots.specs.Slots.{SLOTS}
-use Rattle.board_rules.specs.Board.{State}
+use Rattle.board_rules.specs.Board.{State, slotAt}
 use Rattle.history_promises.specs.Tickets.{Given, ticketAt, EarlierReleased}
-use Rattle.history_promises.specs.Ledger.{Stage, Seat, Ledger, owesOn, owed}
+use Rattle.history_promises.specs.Ledger.{Stage, Seat, Ledger, mine, owesOn, owed}
 use Rattle.history_promises.specs.Ledger.Stage.{Nobody, Asks, Waits, Holds, Owes, Clears}
 use Rattle.history_promises.proofs.Counts.{clash, true-or-false, below-lt, below-same}
 use Rattle.history_promises.proofs.Turns.{ticketOf}
@@ -116,6 +116,14 @@ pub record Tied (n : ℕ) (s : State) (L : Ledger) : Type 0 where
   pub agrees : (r : ℕ) → r < n → Agrees (L .tickets r) (owed (L .seats) r) (getD (s .words) r 0)
   pub owner : (r p : ℕ) → r < n → p < length (L .tickets r) → ticketAt (L .tickets r) p .released ≡ false → Owner (L .seats) (L .tickets r) r p
   pub last : (r : ℕ) → r < n → topped (L .tickets r) ≡ true → Last (L .seats) (L .tickets r) r
+
+-- what a slot keeps, at the stage that its seat has
+module _ {n : ℕ} {s : State} {L : Ledger} (T : Tied n s L) (i : ℕ) (here : i < SLOTS) where
+  pub keeps-at : (g : Stage) → L .seats i .stage ≡ g → slotAt s i ≡ requestFor g (L .seats i) (mine L i)
+  keeps-at g e = T .sits i here .keeps ∙ ap (λ (x : Stage). requestFor x (L .seats i) (mine L i)) e
+
+  pub lent-at : (g : Stage) → L .seats i .stage ≡ g → isNobody g ≡ false → L .seats i .about < n
+  lent-at g e f = ⊎-elim (λ h. clash (isNobody (L .seats i .stage)) h (ap isNobody e ∙ f)) (λ h. h) (T .sits i here .lent)
 
 -- a slot that may clear a record owes nothing there
 may-not-owe : (r : ℕ) (k : Mode) (t : Seat) → mayClear (t .stage) ≡ true → owesOn r k t ≡ false

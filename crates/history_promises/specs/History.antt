@@ -1,4 +1,5 @@
--- A history: calls one after the other on one board, each on the slots and words that the call before it left, and what is read off it.
+-- A history: calls, cares among them, one after the other on one board, each on the slots and words that the one before it left, and what is
+-- read off it.
 use Prim.Native.Nat.{ℕ}
 use mathlib.Core.List.{List, [], _∷_}
 use lib.ListN.{replicate}
@@ -6,12 +7,14 @@ use Rattle.board_slots.specs.Slots.{freshSlots}
 use Rattle.board_call.specs.declared.Call.{Call}
 use Rattle.board_rules.specs.declared.Answer.{Answer}
 use Rattle.board_rules.specs.Board.{State, Done, stateOf, begun, played}
-use Rattle.history_promises.specs.Ledger.{Ledger, blank, notedCall, begunWith}
+use Rattle.board_rules.specs.Care.{cared}
+use Rattle.history_promises.specs.Ledger.{Ledger, blank, notedCall, notedCare, begunWith}
 
--- A call, or begin.
+-- Begin; an open, a step, a release or a show; or the care of a slot. Who may care for it is said in `board_nodes`.
 pub data Move : Type 0 where
   Begin : Move
   Do : Call → Move
+  Care : ℕ → Move
 
 -- Rule 9.1: A fresh board of n words, as an accepted begin leaves it.
 abbrev pub fresh : ℕ → State
@@ -20,6 +23,7 @@ fresh n = record { slots = freshSlots; words = replicate n 0 }
 abbrev pub made : Move → State → Done
 made Begin s = begun s
 made (Do c) s = played c s
+made (Care i) s = cared i s
 
 -- Rule 9.1: The board after some calls.
 unfoldable pub after : State → List Move → State
@@ -39,6 +43,7 @@ events s (m ∷ ms) = record { move = m; answer = made m s .answer } ∷ events 
 abbrev pub noted : Move → Answer → Ledger → Ledger
 noted Begin a L = begunWith a L
 noted (Do c) a L = notedCall c a L
+noted (Care i) a L = notedCare i a L
 
 -- Section 9 of the rules: the ledger is read off calls and answers alone.
 unfoldable pub readOff : Ledger → List Event → Ledger

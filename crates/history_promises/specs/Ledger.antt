@@ -12,9 +12,10 @@ use Rattle.board_slots.specs.Slots.{SLOTS}
 use Rattle.board_call.specs.declared.Call.{Call}
 use Rattle.board_call.specs.declared.Call.the-variants.{Open, Step, Release, Show}
 use Rattle.agent_rules.specs.declared.Answer.{Answer as Tells}
-use Rattle.agent_rules.specs.declared.Answer.the-variants.{WrongPhase, Granted, Waiting, Full, Withdrawn, Released, ClearingDue, Cleared, NotYetClear, Passed}
+use Rattle.agent_rules.specs.declared.Answer.the-variants.{WrongPhase, Granted, Waiting, Full, Withdrawn, Released}
+use Rattle.agent_rules.specs.declared.Answer.the-variants.{ClearingDue, Cleared, NotYetClear, Passed, FreedUnasked}
 use Rattle.board_rules.specs.declared.Answer.{Answer}
-use Rattle.board_rules.specs.declared.Answer.the-variants.{Refused, Begun, Opened, Told, Shown}
+use Rattle.board_rules.specs.declared.Answer.the-variants.{Refused, Begun, Opened, Told, Shown, Fenced}
 use Rattle.history_promises.specs.Tickets.{Given, ticketAt, sameKind, unreleasedBefore}
 
 -- How far a slot has come: nobody sits there; it asks, waits or holds; a withdrawal is owed; or it clears.
@@ -100,7 +101,7 @@ drawn i g L =
     i (record { stage = g; about = L .seats i .about; kind = L .seats i .kind; place = length (mine L i) })
 
 -- Rules 9.2 and 9.5: Granted or waiting: a slot that asks is given a ticket; one that waits already has it. None else is told so, which is
--- `ToldByStage` of demand 3.
+-- `ToldByStage` of demand 3, and `CareCounts` for cares.
 abbrev pub grantedOrWaits : Stage → ℕ → Stage → Ledger → Ledger
 grantedOrWaits Asks i g L = drawn i g L
 grantedOrWaits Waits i g L = seated L i (staged g (L .seats i))
@@ -131,6 +132,7 @@ stepTold i NotYetClear L = L
 stepTold i WrongPhase L = L
 stepTold i Released L = L
 stepTold i ClearingDue L = L
+stepTold i FreedUnasked L = L
 
 -- Rules 9.2 and 9.5: What a release's answer tells of its slot.
 abbrev pub releaseTold : ℕ → Tells → Ledger → Ledger
@@ -144,6 +146,22 @@ releaseTold i Cleared L = L
 releaseTold i NotYetClear L = L
 releaseTold i WrongPhase L = L
 releaseTold i Passed L = L
+releaseTold i FreedUnasked L = L
+
+-- What a care's answer tells of its slot, read by what it was: released and clearing due as a release's answer; freed unasked, the seat is free
+-- again, and no ticket had been drawn; every other as a step's.
+abbrev pub careTold : ℕ → Tells → Ledger → Ledger
+careTold i Released L = releaseTold i Released L
+careTold i ClearingDue L = releaseTold i ClearingDue L
+careTold i FreedUnasked L = seated L i free
+careTold i Granted L = stepTold i Granted L
+careTold i (Waiting n) L = stepTold i (Waiting n) L
+careTold i Full L = stepTold i Full L
+careTold i Withdrawn L = stepTold i Withdrawn L
+careTold i Cleared L = stepTold i Cleared L
+careTold i NotYetClear L = stepTold i NotYetClear L
+careTold i WrongPhase L = stepTold i WrongPhase L
+careTold i Passed L = stepTold i Passed L
 
 -- Rules 9.2 and 9.3: What a call and its answer tell. A refusal tells nothing.
 abbrev pub notedCall : Call → Answer → Ledger → Ledger
@@ -152,17 +170,29 @@ notedCall (Open r m) (Refused n) L = L
 notedCall (Open r m) Begun L = L
 notedCall (Open r m) (Told a) L = L
 notedCall (Open r m) (Shown w) L = L
+notedCall (Open r m) Fenced L = L
 notedCall (Step i) (Told a) L = stepTold i a L
 notedCall (Step i) (Refused n) L = L
 notedCall (Step i) Begun L = L
 notedCall (Step i) (Opened k) L = L
 notedCall (Step i) (Shown w) L = L
+notedCall (Step i) Fenced L = L
 notedCall (Release i) (Told a) L = releaseTold i a L
 notedCall (Release i) (Refused n) L = L
 notedCall (Release i) Begun L = L
 notedCall (Release i) (Opened k) L = L
 notedCall (Release i) (Shown w) L = L
+notedCall (Release i) Fenced L = L
 notedCall (Show r) a L = L
+
+-- What a care and its answer tell. A refusal tells nothing.
+abbrev pub notedCare : ℕ → Answer → Ledger → Ledger
+notedCare i (Told a) L = careTold i a L
+notedCare i (Refused n) L = L
+notedCare i Begun L = L
+notedCare i (Opened k) L = L
+notedCare i (Shown w) L = L
+notedCare i Fenced L = L
 
 -- Rule 9.1: With an accepted begin the ledger starts anew.
 abbrev pub begunWith : Answer → Ledger → Ledger
@@ -171,3 +201,4 @@ begunWith (Refused n) L = L
 begunWith (Opened k) L = L
 begunWith (Told a) L = L
 begunWith (Shown w) L = L
+begunWith Fenced L = L

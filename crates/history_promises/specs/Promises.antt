@@ -1,11 +1,11 @@
--- Demand 3 of docs/RULES.md, section 11: first that the ledger is read rightly, then D3.1 to D3.8 in order, then all of it as one. D3.8 was
--- asked for beside the demand.
+-- Demand 3 of docs/RULES.md, section 11: first that the ledger is read rightly, then D3.1 to D3.8 in order, then all of it as one, and last
+-- what a care counts as. D3.8 was asked for beside the demand.
 -- Statements only: proofs/ has why each holds.
 use Prim.Native.Nat.{ℕ, suc, _+_, _<_, _≤_}
 use mathlib.Core.Path.{_≡_}
 use mathlib.Core.Bool.{false}
 use mathlib.Core.Logic.{_↔_, _⊎_}
-use mathlib.Core.List.{List}
+use mathlib.Core.List.{List, [], _∷_, _++_}
 use lib.ListN.{length, getD}
 use Rattle.word_layout.specs.Word.{heldBy, joinOf}
 use Rattle.word_layout.specs.declared.Counters.{Counters}
@@ -16,13 +16,16 @@ use Rattle.board_slots.specs.Slots.{SLOTS}
 use Rattle.board_call.specs.declared.Call.{Call}
 use Rattle.board_call.specs.declared.Call.the-variants.{Open, Step, Release}
 use Rattle.agent_rules.specs.declared.Answer.the-variants.{Granted, Waiting, Full, Withdrawn, Released, ClearingDue, Cleared, NotYetClear, Passed}
+use Rattle.agent_rules.specs.declared.Answer.the-variants.{FreedUnasked}
 use Rattle.board_rules.specs.declared.Answer.{Answer}
 use Rattle.board_rules.specs.declared.Answer.the-variants.{Refused, Begun, Opened, Told}
 use Rattle.board_rules.specs.Board.{State, stateOf, begun}
+use Rattle.board_rules.specs.Care.{cared}
 use Rattle.history_promises.specs.Tickets.{Given, ticketAt, givenOf, releasedOf, EarlierReleased, unreleasedBefore, AllReleased}
-use Rattle.history_promises.specs.Ledger.{Ledger, Stage, mine, waitsFor, owed, notedCall}
+use Rattle.history_promises.specs.Ledger.{Ledger, Stage, free, mine, waitsFor, owed, notedCall}
 use Rattle.history_promises.specs.Ledger.Stage.{Nobody, Asks, Waits, Holds, Owes, Clears}
 use Rattle.history_promises.specs.History.{Move, fresh, ledgerAfter, boardAfter, answerAfter}
+use Rattle.history_promises.specs.History.Move.{Do, Care}
 
 -- First, that the ledger is read rightly.
 
@@ -210,10 +213,54 @@ pub record Demand (n : ℕ) (L : Ledger) (s : State) (says : Call → Answer) : 
   pub small : CountersStaySmall n s
   pub told-how-many : ToldHowMany L says
 
--- It holds on a fresh board of n words, and after whatever calls have been made on it.
+-- It holds on a fresh board of n words, and after whatever calls have been made on it, cares among them.
 abbrev pub Demand3 : Type 0
 Demand3 = (n : ℕ) → 1 ≤ n → n ≤ 4096 → (ms : List Move) → Demand n (ledgerAfter n ms) (boardAfter n ms) (answerAfter n ms)
 
 -- A fresh board is what an accepted begin leaves, whatever was before.
 abbrev pub BegunIsFresh : Type 0
 BegunIsFresh = (s : State) → begun s .answer ≡ Begun → (1 ≤ length (s .words)) × (length (s .words) ≤ 4096) × (stateOf (begun s) ≡ fresh (length (s .words)))
+
+-- Last, a care counts as the step or the release that it makes.
+
+-- What a care is told, by its slot's stage, beside what its step and its release would be told. So what demand 3 says of the step of a slot that
+-- waits, owes or clears, and of the release of one that holds, it says of its care. Where nobody sits a care is refused, and a slot that asks is
+-- told freed unasked, which no step and no release is.
+abbrev pub CareTells : Stage → (care step release : Answer) → Type 0
+CareTells Nobody care step release = (care ≡ Refused 1) ⊎ (care ≡ Refused 4)
+CareTells Asks care step release = care ≡ Told FreedUnasked
+CareTells Waits care step release = care ≡ step
+CareTells Holds care step release = care ≡ release
+CareTells Owes care step release = care ≡ step
+CareTells Clears care step release = care ≡ step
+
+abbrev pub CareCounts : Type 0
+CareCounts =
+    (n : ℕ) → 1 ≤ n → n ≤ 4096 → (ms : List Move) (i : ℕ) →
+    CareTells (ledgerAfter n ms .seats i .stage) (cared i (boardAfter n ms) .answer) (answerAfter n ms (Step i)) (answerAfter n ms (Release i))
+
+-- The move that a care makes, by its slot's stage: one that holds is released, one that asks is freed, which a care alone does, and any other
+-- takes its step; where nobody sits the step is refused as the care is.
+abbrev pub careMakes : Stage → ℕ → Move
+careMakes Nobody i = Do (Step i)
+careMakes Asks i = Care i
+careMakes Waits i = Do (Step i)
+careMakes Holds i = Do (Release i)
+careMakes Owes i = Do (Step i)
+careMakes Clears i = Do (Step i)
+
+-- Wherever a care stands in a history, the move that it makes can stand in its place: board and ledger come to the same.
+abbrev pub CareIsWhatItMakes : Type 0
+CareIsWhatItMakes =
+    (n : ℕ) → 1 ≤ n → n ≤ 4096 → (ms later : List Move) (i : ℕ) →
+    (boardAfter n (ms ++ Care i ∷ later) ≡ boardAfter n (ms ++ careMakes (ledgerAfter n ms .seats i .stage) i ∷ later)) ×
+    (ledgerAfter n (ms ++ Care i ∷ later) ≡ ledgerAfter n (ms ++ careMakes (ledgerAfter n ms .seats i .stage) i ∷ later))
+
+-- And the care of a slot that asks leaves no trace of it: no word has changed, no ticket was drawn or released, and its seat is free.
+abbrev pub AskingLeavesNoTrace : Type 0
+AskingLeavesNoTrace =
+    (n : ℕ) → 1 ≤ n → n ≤ 4096 → (ms : List Move) (i : ℕ) →
+    ledgerAfter n ms .seats i .stage ≡ Asks →
+    (boardAfter n (ms ++ Care i ∷ []) .words ≡ boardAfter n ms .words) ×
+    (ledgerAfter n (ms ++ Care i ∷ []) .tickets ≡ ledgerAfter n ms .tickets) ×
+    (ledgerAfter n (ms ++ Care i ∷ []) .seats i ≡ free)

@@ -1,4 +1,4 @@
--- Four histories on a board of one word, with every answer. Each claim is computed on the definitions.
+-- Five histories on a board of one word, with every answer. Each claim is computed on the definitions.
 use Prim.Native.Nat.{ℕ}
 use mathlib.Core.Path.{_≡_}
 use mathlib.Core.Bool.{Bool, true, false, _&&_}
@@ -8,14 +8,14 @@ use lib.ListN.{getD}
 use Rattle.agent_ticket.specs.declared.Mode.{Mode}
 use Rattle.agent_ticket.specs.declared.Mode.the-variants.{Reader, Writer}
 use Rattle.board_call.specs.declared.Call.the-variants.{Open, Step, Release}
-use Rattle.agent_rules.specs.declared.Answer.the-variants.{Granted, Waiting, Released}
+use Rattle.agent_rules.specs.declared.Answer.the-variants.{Granted, Waiting, Released, FreedUnasked}
 use Rattle.board_rules.specs.declared.Answer.{Answer}
 use Rattle.board_rules.specs.declared.Answer.the-variants.{Opened, Told}
 use Rattle.history_promises.specs.Tickets.{Given}
-use Rattle.history_promises.specs.Ledger.{Stage, Seat, waitsFor}
+use Rattle.history_promises.specs.Ledger.{Stage, Seat, free, waitsFor}
 use Rattle.history_promises.specs.Ledger.Stage.{Waits, Holds}
 use Rattle.history_promises.specs.History.{Move, Event, fresh, events, ledgerAfter}
-use Rattle.history_promises.specs.History.Move.{Do}
+use Rattle.history_promises.specs.History.Move.{Do, Care}
 
 abbrev opensWriter : Move
 opensWriter = Do (Open 0 1)
@@ -28,6 +28,9 @@ steps i = Do (Step i)
 
 abbrev releases : ℕ → Move
 releases i = Do (Release i)
+
+abbrev cares : ℕ → Move
+cares i = Care i
 
 abbrev pub answers : List Move → List Answer
 answers ms = map (λ (e : Event). e .answer) (events (fresh 1) ms)
@@ -150,3 +153,35 @@ NumbersFallWithReleases =
     Told Granted ∷ Told Released ∷ Told (Waiting 1) ∷ Told (Waiting 2) ∷
     Told Granted ∷ Told Granted ∷ Told Released ∷ Told (Waiting 1) ∷ Told (Waiting 1) ∷
     Told Released ∷ Told (Waiting 1) ∷ Told Granted ∷ Told Released ∷ Told Granted ∷ []
+
+-- A lost node: its writer in slot 0 holds, its writer in slot 1 waits, and slot 2 never asked. Behind them waits a reader of another node, in slot
+-- 3. The slots of the lost node are cared for, lowest first, until none is left: the first is released, the second granted and then released,
+-- the third freed unasked. Then the reader is granted.
+abbrev pub lostNode : List Move
+lostNode =
+    opensWriter ∷ steps 0 ∷
+    opensWriter ∷ steps 1 ∷
+    opensReader ∷
+    opensReader ∷ steps 3 ∷
+    cares 0 ∷ cares 1 ∷ cares 2 ∷ cares 1 ∷
+    steps 3 ∷ []
+
+abbrev pub LostNodeIsCaredFor : Type 0
+LostNodeIsCaredFor =
+    answers lostNode ≡
+    Opened 0 ∷ Told Granted ∷
+    Opened 1 ∷ Told (Waiting 1) ∷
+    Opened 2 ∷
+    Opened 3 ∷ Told (Waiting 2) ∷
+    Told Released ∷ Told Granted ∷ Told FreedUnasked ∷ Told Released ∷
+    Told Granted ∷ []
+
+-- What the ledger then says: both writers' tickets are released, slot 2 has drawn none, and only the reader sits.
+abbrev pub LostNodeInTheLedger : Type 0
+LostNodeInTheLedger =
+    (ledgerAfter 1 lostNode .tickets 0 ≡
+    record { kind = Writer; slot = 0; released = true } ∷
+    record { kind = Writer; slot = 1; released = true } ∷
+    record { kind = Reader; slot = 3; released = false } ∷ []) ×
+    (map (ledgerAfter 1 lostNode .seats) (0 ∷ 1 ∷ 2 ∷ 3 ∷ []) ≡
+    free ∷ free ∷ free ∷ record { stage = Holds; about = 0; kind = Reader; place = 2 } ∷ [])

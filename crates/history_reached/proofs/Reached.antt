@@ -21,19 +21,19 @@ use Rattle.board_call.specs.declared.Call.{Call}
 use Rattle.board_call.specs.declared.Call.the-variants.{Open, Step, Release}
 use Rattle.board_rules.specs.declared.Answer.{Answer}
 use Rattle.board_rules.specs.declared.Answer.the-variants.{Opened, Told}
-use Rattle.board_rules.specs.Board.{State, stateOf, slotAt, opened}
+use Rattle.board_rules.specs.Board.{State, slotAt, opened}
 use Rattle.history_promises.specs.Tickets.{Given, pastTheLast, ticketAt, sameKind, counted, givenOf, AllReleased}
 use Rattle.history_promises.specs.Ledger.{Seat, Ledger, blank, free, seated, staged, drawn, ticketReleased, releasedAt, notedCall, one, isOwing}
 use Rattle.history_promises.specs.Ledger.Stage.{Nobody, Asks, Holds, Owes, Clears}
-use Rattle.history_promises.specs.History.{Move, fresh, made, after, events, noted, readOff, ledgerAfter, boardAfter, answerAfter}
+use Rattle.history_promises.specs.History.{Move, fresh, events, readOff, ledgerAfter, boardAfter, answerAfter}
 use Rattle.history_promises.specs.History.Move.{Do}
 use Rattle.history_promises.specs.Promises.{ToldByStage, Demand}
 use Rattle.history_reached.specs.Reached.{FullIsReached, OwesIsReached, ClearingDueIsReached}
 use Rattle.history_reached.specs.Reached.{ClearsIsReached, NotYetClearIsReached, ClearedIsReached}
 use Rattle.history_promises.proofs.Counts.{clash, true-or-false, counted-append, counted-one}
 use Rattle.history_promises.proofs.Order.{given-set}
-use Rattle.history_promises.proofs.Tied.{Tied, hasTicket}
-use Rattle.history_promises.proofs.Kept.{keeps-at, tied}
+use Rattle.history_promises.proofs.Tied.{Tied, hasTicket, keeps-at}
+use Rattle.history_promises.proofs.Kept.{tied, ledger-then}
 use Rattle.history_promises.proofs.Demand.{demand}
 
 -- an open takes the slot below which all are in use
@@ -61,14 +61,6 @@ record Reached (L : Ledger) : Type 0 where
   moves : List Move
   ledger : ledgerAfter 1 moves ≡ L
 
--- the ledger after one call more
-ledger-then :
-    (m : Move) (ms : List Move) (s : State) (L : Ledger) →
-    readOff L (events s (ms ++ m ∷ [])) ≡ noted m (made m (after s ms) .answer) (readOff L (events s ms))
-unfolding after events readOff
-ledger-then m [] s L = refl
-ledger-then m (x ∷ ms) s L = ledger-then m ms (stateOf (made x s)) (noted x (made x s .answer) L)
-
 module _ {L : Ledger} (R : Reached L) where
   abbrev board : State
   board = boardAfter 1 (R .moves)
@@ -88,10 +80,11 @@ module _ {L : Ledger} (R : Reached L) where
 
   -- a call more, whose answer is known
   then : (c : Call) (a : Answer) → says c ≡ a → Reached (notedCall c a L)
+  unfolding events readOff
   then c a e =
       record {
         moves = R .moves ++ Do c ∷ [];
-        ledger = ledger-then (Do c) (R .moves) (fresh 1) blank ∙ rw (e, R .ledger) refl;
+        ledger = ledger-then (Do c) (R .moves) [] (fresh 1) blank ∙ rw (e, R .ledger) refl;
       }
 
   -- where nobody has a ticket, all are released

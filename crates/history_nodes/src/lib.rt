@@ -1,0 +1,1 @@
+// Every sequence of calls of all seven kinds, in definitions and laws alone.

@@ -1,0 +1,3 @@
+pub mod Cares
+pub mod Rest
+pub mod Stories
