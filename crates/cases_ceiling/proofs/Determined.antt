@@ -7,6 +7,8 @@ use Rattle.cases_ceiling.proofs.after_almost_all_tickets.Kinds as after
 use Rattle.cases_ceiling.proofs.after_almost_all_tickets.Reads as after-almost-all-tickets-reads
 use Rattle.cases_ceiling.proofs.ceiling.Kinds as ceiling-kinds
 use Rattle.cases_ceiling.proofs.ceiling.Reads as ceiling-reads
+use Rattle.cases_ceiling.proofs.lost_clearer.Kinds as lost-clearer-kinds
+use Rattle.cases_ceiling.proofs.lost_clearer.Reads as lost-clearer-reads
 use Rattle.cases_ceiling.proofs.most.Kinds as most-kinds
 use Rattle.cases_ceiling.proofs.most.Reads as most-reads
 
@@ -18,3 +20,6 @@ ceiling-determined κs a z z′ ws ws′ p q = (refl, refl)
 
 most-determined : Determined 0 most-kinds.ps most-kinds.r most-reads.Post
 most-determined κs a z z′ ws ws′ p q = (refl, refl)
+
+lost-clearer-determined : Determined 0 lost-clearer-kinds.ps lost-clearer-kinds.r lost-clearer-reads.Post
+lost-clearer-determined κs a z z′ ws ws′ p q = (refl, refl)

@@ -1,5 +1,5 @@
-// What programs print: a line for each entry of a report, and the last line. Lines are collected and go out in large writes. No contract can say
-// what is written.
+// What programs print: a line for each entry of a report, the last line, and a line for each care of a repair. Lines are collected and go out in
+// large writes. No contract can say what is written.
 use libc::STDOUT_FILENO;
 
 // Writes the first n bytes of a text.
@@ -109,4 +109,37 @@ pub fn end_line(ending: u64, records: u64, bytes: u64, verbs: u64) {
     let taken = put_field(&mut text, played, bytes, b' ');
     let sent = put_field(&mut text, taken, verbs, b'\n');
     flush(&text, sent);
+}
+
+// Puts the line of the care at a place of the log: slot, old phase, outcome.
+fn care_line(text: &mut [u8], to: usize, log: &[u8], at: usize) -> usize {
+    let n = log.len();
+    if n < 3 {
+        return to;
+    }
+    if n - 3 < at {
+        return to;
+    }
+    let named = put_field(text, to, wide(log[at]), b' ');
+    let was = put_field(text, named, wide(log[at + 1]), b' ');
+    put_field(text, was, wide(log[at + 2]), b'\n')
+}
+
+// The lines of the first cares of a log. A line has at most 12 bytes.
+pub fn care_lines(log: &[u8], cares: usize) {
+    let mut text = io::large_buffer();
+    let mut place: usize = 0;
+    let mut i: usize = 0;
+    while i < cares {
+        if 65536 <= i {
+            return;
+        }
+        place = care_line(&mut text, place, log, i * 3);
+        if 65472 < place {
+            flush(&text, place);
+            place = 0;
+        }
+        i += 1;
+    }
+    flush(&text, place);
 }

@@ -3,31 +3,16 @@ use Prim.Native.Nat.{_-_}
 use mathlib.Core.Path.{_≡_}
 use lib.ListN.{length}
 use borrow.Author.Needs.{needs}
-use Rattle.program_job.proofs.play_lines.Statement.{statement}
-use Rattle.program_job.proofs.play_lines.Tie as tie
+use Rattle.program_job.proofs.played.Statement.{statement}
+use Rattle.program_job.proofs.played.Tie as tie
 
 abbrev Inv-loop : tie.InvT-loop
-Inv-loop input words₀ board₀ report₀ place₀ records₀ verbs₀ runs₀ words board report place records verbs runs =
-    (length words ≡ 64) × (length report ≡ 6144)
+Inv-loop words₀ input board₀ report₀ place₀ records₀ verbs₀ runs₀ words board report place records verbs runs =
+    (length words ≡ length words₀) × (length report ≡ 6144)
 
 abbrev μ-loop : tie.MeasureT-loop
-μ-loop input words₀ board₀ report₀ place₀ records₀ verbs₀ runs₀ words board report place records verbs runs =
+μ-loop words₀ input board₀ report₀ place₀ records₀ verbs₀ runs₀ words board report place records verbs runs =
     65536 - runs
-
-end-line-requires : tie.Need-end-line-requires Inv-loop μ-loop
-end-line-requires c κs = search needs
-
-returns : tie.Need-returns Inv-loop μ-loop
-returns c = search needs
-
-fresh-requires : tie.Need-fresh-requires Inv-loop μ-loop
-fresh-requires c κs = search needs
-
-slice-aggregate-begin : tie.Need-slice-aggregate-begin Inv-loop μ-loop
-slice-aggregate-begin c = search needs
-
-begin-requires : tie.Need-begin-requires Inv-loop μ-loop
-begin-requires c κs = search needs
 
 loop-holds : tie.Need-loop-holds Inv-loop μ-loop
 loop-holds c = search needs
@@ -37,9 +22,6 @@ add-runs c = search needs
 
 slice-aggregate-run : tie.Need-slice-aggregate-run Inv-loop μ-loop
 slice-aggregate-run c = search needs
-
-slice-aggregate-run-2 : tie.Need-slice-aggregate-run-2 Inv-loop μ-loop
-slice-aggregate-run-2 c = search needs
 
 run-requires : tie.Need-run-requires Inv-loop μ-loop
 run-requires c κs = search needs
@@ -62,11 +44,14 @@ wrapping-add-usize-requires c κs = search needs
 cast-end-line : tie.Need-cast-end-line Inv-loop μ-loop
 cast-end-line c = search needs
 
-end-line-requires-2 : tie.Need-end-line-requires-2 Inv-loop μ-loop
-end-line-requires-2 c κs = search needs
+end-line-requires : tie.Need-end-line-requires Inv-loop μ-loop
+end-line-requires c κs = search needs
 
-returns-2 : tie.Need-returns-2 Inv-loop μ-loop
-returns-2 c = search needs
+same-length : tie.Need-same-length Inv-loop μ-loop
+same-length c = search needs
+
+returns : tie.Need-returns Inv-loop μ-loop
+returns c = search needs
 
 loop-less : tie.Need-loop-less Inv-loop μ-loop
 loop-less c = search needs
@@ -74,24 +59,27 @@ loop-less c = search needs
 loop-again : tie.Need-loop-again Inv-loop μ-loop
 loop-again c = search needs
 
-returns-3 : tie.Need-returns-3 Inv-loop μ-loop
-returns-3 c = search needs
+loop-less-2 : tie.Need-loop-less-2 Inv-loop μ-loop
+loop-less-2 c = search needs
 
-pub play-lines-spec : {M : Type 1} → statement M
-play-lines-spec =
+loop-again-2 : tie.Need-loop-again-2 Inv-loop μ-loop
+loop-again-2 c = search needs
+
+same-length-2 : tie.Need-same-length-2 Inv-loop μ-loop
+same-length-2 c = search needs
+
+returns-2 : tie.Need-returns-2 Inv-loop μ-loop
+returns-2 c = search needs
+
+pub played-spec : {M : Type 1} → statement M
+played-spec =
     tie.close
     (tie.spec
     Inv-loop
     μ-loop
-    end-line-requires
-    returns
-    fresh-requires
-    slice-aggregate-begin
-    begin-requires
     loop-holds
     add-runs
     slice-aggregate-run
-    slice-aggregate-run-2
     run-requires
     slice-aggregate-entry-lines
     entry-lines-requires
@@ -99,8 +87,12 @@ play-lines-spec =
     wrapping-add-u64-requires-2
     wrapping-add-usize-requires
     cast-end-line
-    end-line-requires-2
-    returns-2
+    end-line-requires
+    same-length
+    returns
     loop-less
     loop-again
-    returns-3)
+    loop-less-2
+    loop-again-2
+    same-length-2
+    returns-2)

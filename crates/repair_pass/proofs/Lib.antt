@@ -1,0 +1,3 @@
+pub mod Passing
+pub mod Stores
+pub mod Determined

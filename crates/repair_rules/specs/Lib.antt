@@ -1,0 +1,4 @@
+pub mod Repair
+pub mod Log
+pub mod Promises
+pub mod Examples
