@@ -1,6 +1,7 @@
 //! The rival: the same rules as one would write them in Rust for speed. The board is changed in place and keeps a map of its slots in use.
 
 const SLOTS: usize = 256;
+const NODES: usize = 256;
 const MOST_WORDS: usize = 4_096;
 const ENTRY: usize = 12;
 
@@ -93,6 +94,8 @@ fn came_to(outcome: u8, value: u64) -> Answer {
 pub struct Board {
     slots: [Request; SLOTS],
     used: [u64; 4],
+    nodes: [u8; SLOTS],
+    fenced: [bool; NODES],
 }
 
 impl Board {
@@ -104,6 +107,8 @@ impl Board {
         Board {
             slots: [FREE; SLOTS],
             used: [0; 4],
+            nodes: [0; SLOTS],
+            fenced: [false; NODES],
         }
     }
 
@@ -116,17 +121,27 @@ impl Board {
     #[inline]
     fn free(&mut self, slot: u8) {
         self.slots[usize::from(slot)] = FREE;
+        self.nodes[usize::from(slot)] = 0;
         self.used[usize::from(slot) / 64] &= !(1 << (slot % 64));
+    }
+
+    /// Whether the node of a slot is fenced.
+    #[inline]
+    fn is_fenced(&self, slot: u8) -> bool {
+        self.fenced[usize::from(self.nodes[usize::from(slot)])]
     }
 
     /// The slot is 0 where the open is refused.
     #[inline]
-    fn open(&mut self, words: &[u64], record: u16, mode: u8) -> (Answer, u8) {
+    fn open(&mut self, words: &[u64], record: u16, mode: u8, node: u8) -> (Answer, u8) {
         if usize::from(record) >= words.len() {
             return (refused(2), 0);
         }
         if mode > 1 {
             return (refused(3), 0);
+        }
+        if self.fenced[usize::from(node)] {
+            return (refused(14), 0);
         }
         let Some(slot) = self.lowest_free() else {
             return (refused(6), 0);
@@ -137,18 +152,58 @@ impl Board {
             phase: Phase::Asking,
             ..FREE
         };
+        self.nodes[slot] = node;
         self.used[slot / 64] |= 1 << (slot % 64);
         (came_to(1, 0), slot as u8)
     }
 
     #[inline]
     fn step(&mut self, words: &mut [u64], slot: u8) -> Answer {
-        let request = &mut self.slots[usize::from(slot)];
-        match request.phase {
-            Phase::Free => return refused(4),
-            Phase::Held => return refused(5),
-            _ => {}
+        match self.slots[usize::from(slot)].phase {
+            Phase::Free => refused(4),
+            _ if self.is_fenced(slot) => refused(15),
+            Phase::Held => refused(5),
+            _ => self.go_on(words, slot),
         }
+    }
+
+    #[inline]
+    fn release(&mut self, words: &mut [u64], slot: u8) -> Answer {
+        match self.slots[usize::from(slot)].phase {
+            Phase::Free => refused(4),
+            _ if self.is_fenced(slot) => refused(15),
+            Phase::Held => self.let_go(words, slot),
+            _ => refused(5),
+        }
+    }
+
+    #[inline]
+    fn fence(&mut self, node: u8) -> Answer {
+        self.fenced[usize::from(node)] = true;
+        came_to(13, 0)
+    }
+
+    /// A request that has not asked is freed without a verb, where its record is lent.
+    #[inline]
+    fn care(&mut self, words: &mut [u64], slot: u8) -> Answer {
+        let request = self.slots[usize::from(slot)];
+        match request.phase {
+            Phase::Free => refused(4),
+            _ if !self.is_fenced(slot) => refused(16),
+            Phase::Asking if usize::from(request.record) >= words.len() => refused(2),
+            Phase::Asking => {
+                self.free(slot);
+                came_to(12, 0)
+            }
+            Phase::Held => self.let_go(words, slot),
+            _ => self.go_on(words, slot),
+        }
+    }
+
+    /// What a step does in a phase that has one. Called from two places and not inlined, it would cost a step a third more instructions.
+    #[inline(always)]
+    fn go_on(&mut self, words: &mut [u64], slot: u8) -> Answer {
+        let request = &mut self.slots[usize::from(slot)];
         let Some(word) = words.get_mut(usize::from(request.record)) else {
             return refused(2);
         };
@@ -207,14 +262,10 @@ impl Board {
         came_to(3, writers + readers)
     }
 
-    #[inline]
-    fn release(&mut self, words: &mut [u64], slot: u8) -> Answer {
+    /// What a release does to a request that holds.
+    #[inline(always)]
+    fn let_go(&mut self, words: &mut [u64], slot: u8) -> Answer {
         let request = &mut self.slots[usize::from(slot)];
-        match request.phase {
-            Phase::Free => return refused(4),
-            Phase::Held => {}
-            _ => return refused(5),
-        }
         let Some(word) = words.get_mut(usize::from(request.record)) else {
             return refused(2);
         };
@@ -263,7 +314,7 @@ pub fn run(
     for entry in report.chunks_exact_mut(ENTRY).take(allowance) {
         let (answer, slot, after) = match *rest {
             [1, low, high, mode, ref after @ ..] => {
-                let (answer, slot) = board.open(words, u16::from_le_bytes([low, high]), mode);
+                let (answer, slot) = board.open(words, u16::from_le_bytes([low, high]), mode, 0);
                 (answer, slot, after)
             }
             [2, slot, ref after @ ..] => {
@@ -278,6 +329,16 @@ pub fn run(
             }
             [4, low, high, ref after @ ..] => {
                 (show(words, u16::from_le_bytes([low, high])), 0, after)
+            }
+            [5, low, high, mode, node, ref after @ ..] => {
+                let (answer, slot) = board.open(words, u16::from_le_bytes([low, high]), mode, node);
+                (answer, slot, after)
+            }
+            [6, node, ref after @ ..] => (board.fence(node), 0, after),
+            [7, slot, ref after @ ..] => {
+                let answer = board.care(words, slot);
+                verbs += u64::from(answer.number == 0 && answer.outcome != 12);
+                (answer, slot, after)
             }
             ref other => {
                 stopped = Some(left_by(other));
@@ -307,7 +368,7 @@ pub fn run(
 fn left_by(rest: &[u8]) -> u8 {
     match rest {
         [] => 0,
-        [1..=4, ..] => 7,
+        [1..=7, ..] => 7,
         _ => 8,
     }
 }

@@ -40,6 +40,19 @@ impl Script {
         self.put(&[4, low, high]);
     }
 
+    pub fn open_for(&mut self, node: u8, record: u16, mode: u8) {
+        let [low, high] = record.to_le_bytes();
+        self.put(&[5, low, high, mode, node]);
+    }
+
+    pub fn fence(&mut self, node: u8) {
+        self.put(&[6, node]);
+    }
+
+    pub fn care(&mut self, slot: u8) {
+        self.put(&[7, slot]);
+    }
+
     fn put(&mut self, bytes: &[u8]) {
         self.bytes.extend_from_slice(bytes);
         self.records += 1;
@@ -140,7 +153,55 @@ pub fn mixed(words: usize) -> Load {
     script.load("mixed", words, 1)
 }
 
-/// Schedules that are compared and not timed: any bytes, and records driven to the ceiling and cleared.
+/// Calls of 32 nodes, of which one after the other is lost. The last call may be cut.
+fn lost_nodes(dice: &mut Dice) -> Load {
+    let mut script = Script::new();
+    for _ in 0..dice.below(3_000) {
+        let node = dice.below(32) as u8;
+        match dice.below(64) {
+            0 => script.fence(node),
+            1 => script.open_for(node, dice.below(80) as u16, dice.below(4) as u8),
+            2..=4 => script.open(dice.below(3) as u16, dice.below(2) as u8),
+            5..=18 => script.open_for(node, dice.below(3) as u16, dice.below(2) as u8),
+            19..=36 => script.step(dice.below(24) as u8),
+            37..=47 => script.release(dice.below(24) as u8),
+            48..=62 => script.care(dice.below(24) as u8),
+            _ => script.care(dice.below(256) as u8),
+        }
+    }
+    let mut load = script.load("lost nodes", 64, 1);
+    for _ in 0..dice.below(4) {
+        load.schedule.pop();
+    }
+    load
+}
+
+/// Record 0 has one ticket of the mode left.
+fn near_a_ceiling(mode: u8) -> Script {
+    let mut script = Script::new();
+    for _ in 0..32_767 {
+        script.open(0, mode);
+        script.step(0);
+        script.release(0);
+    }
+    script
+}
+
+/// Who has the last ticket is lost, and so is one that was turned away: released, not yet clear, withdrawn, cleared.
+fn lost_past_a_ceiling(mode: u8) -> Load {
+    let mut script = near_a_ceiling(mode);
+    for (node, slot) in [(1, 0), (2, 1)] {
+        script.open_for(node, 0, mode);
+        script.step(slot);
+        script.fence(node);
+    }
+    for slot in [0, 0, 1, 0] {
+        script.care(slot);
+    }
+    script.load("lost past a ceiling", 1, 1)
+}
+
+/// Schedules that are compared and not timed: any bytes, and records driven to the ceiling and cleared; both with nodes that are lost too.
 pub fn compared_only() -> Vec<Load> {
     let mut loads = Vec::new();
     let mut dice = Dice::new(0x5eed_0002);
@@ -158,7 +219,7 @@ pub fn compared_only() -> Vec<Load> {
         }
         let mut load = script.load("any calls", 64, 1);
         for _ in 0..dice.below(4) {
-            load.schedule.push(dice.below(6) as u8);
+            load.schedule.push(dice.below(9) as u8);
         }
         loads.push(load);
     }
@@ -171,12 +232,7 @@ pub fn compared_only() -> Vec<Load> {
             script.step(0);
         }
         loads.push(script.load("a ceiling, cleared", 64, 1));
-        let mut script = Script::new();
-        for _ in 0..32_767 {
-            script.open(0, mode);
-            script.step(0);
-            script.release(0);
-        }
+        let mut script = near_a_ceiling(mode);
         for _ in 0..200_000 {
             match dice.below(8) {
                 0 | 1 => script.open(0, dice.below(2) as u8),
@@ -186,6 +242,10 @@ pub fn compared_only() -> Vec<Load> {
             }
         }
         loads.push(script.load("past a ceiling", 1, 1));
+        loads.push(lost_past_a_ceiling(mode));
+    }
+    for _ in 0..200 {
+        loads.push(lost_nodes(&mut dice));
     }
     for words in [0, 4_096, 4_097, 5_000] {
         let mut load = mixed(words);

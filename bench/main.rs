@@ -47,23 +47,34 @@ fn outcome(run: Run, load: &Load, room: usize) -> (u64, Vec<u64>, Vec<u8>) {
     (verbs, words, report)
 }
 
-/// Runs of the rival on 2 words whose ending, records and bytes are known: the rows of `run_rules`'s specs/Examples.antt.
+/// Runs of the rival on 2 words whose ending, records and bytes are known: the rows of `run_rules`'s specs/Examples.antt, and three cut records.
 fn wrong_ending() -> Option<String> {
     const WORKED: &[u8] = &[1, 0, 0, 1, 2, 0, 3, 0, 4, 0, 0];
-    let rows: [(usize, usize, &[u8], usize, (u8, usize, usize, u64)); 13] = [
+    const HELD_AND_FENCED: &[u8] = &[5, 0, 0, 1, 3, 2, 0, 6, 3, 3, 0];
+    const ASKING_AND_CARED_FOR: &[u8] = &[5, 0, 0, 1, 3, 6, 3, 2, 0, 7, 0];
+    const WAITING_AND_CARED_FOR: &[u8] = &[
+        1, 0, 0, 1, 2, 0, 5, 0, 0, 1, 3, 2, 1, 6, 3, 3, 0, 7, 1, 7, 1,
+    ];
+    let rows: [(usize, usize, &[u8], usize, (u8, usize, usize, u64)); 19] = [
         (10, 100, WORKED, 0, (0, 4, 11, 2)),
         (1, 100, WORKED, 0, (11, 1, 4, 0)),
         (0, 100, WORKED, 11, (0, 0, 0, 0)),
         (0, 0, WORKED, 99, (0, 0, 0, 0)),
         (10, 23, WORKED, 0, (12, 1, 4, 0)),
         (0, 0, WORKED, 0, (11, 0, 0, 0)),
-        (10, 100, &[5], 0, (8, 0, 0, 0)),
-        (10, 11, &[5], 0, (12, 0, 0, 0)),
+        (10, 100, &[8], 0, (8, 0, 0, 0)),
+        (10, 11, &[8], 0, (12, 0, 0, 0)),
         (10, 100, &[1, 0, 0], 0, (7, 0, 0, 0)),
         (10, 11, &[2], 0, (12, 0, 0, 0)),
         (10, 100, &[1, 0, 0, 1, 2, 0, 9], 0, (8, 2, 6, 1)),
         (10, 100, &[1, 0, 0, 1, 2], 0, (7, 1, 4, 0)),
         (10, 100, &[2, 9, 4, 1, 0], 0, (0, 2, 5, 0)),
+        (10, 100, HELD_AND_FENCED, 0, (0, 4, 11, 1)),
+        (10, 100, ASKING_AND_CARED_FOR, 0, (0, 4, 11, 0)),
+        (10, 100, WAITING_AND_CARED_FOR, 0, (0, 8, 21, 5)),
+        (10, 100, &[5, 0, 0, 1], 0, (7, 0, 0, 0)),
+        (10, 100, &[6], 0, (7, 0, 0, 0)),
+        (10, 100, &[7], 0, (7, 0, 0, 0)),
     ];
     rows.iter()
         .find_map(|&(allowance, room, schedule, at, row)| {
@@ -134,7 +145,7 @@ fn main() -> ExitCode {
     let mut compared = 0;
     for load in timed.iter().chain(&also) {
         let all = load.records * 12;
-        for room in [all, all + 7, all / 2 + 5, 11, 0] {
+        for room in [all, all + 19, all / 2 + 5, 11, 0] {
             if let Some(said) = difference(load, room) {
                 println!("FAILED: the two runs differ. {said}");
                 return ExitCode::FAILURE;

@@ -24,7 +24,7 @@ ACCEPTED, NO_SUCH_MODE, WRONG_PHASE = 0, 3, 5
 # The outcome of an accepted answer; TOLD_NOTHING comes with a refusal.
 TOLD_NOTHING = 0
 TOLD_GRANTED, TOLD_WAITING, TOLD_FULL, TOLD_WITHDRAWN, TOLD_RELEASED, TOLD_CLEARING_DUE, TOLD_CLEARED, TOLD_NOT_YET_CLEAR = range(2, 10)
-TOLD_PASSED = 11
+TOLD_PASSED, TOLD_FREED_UNASKED = 11, 12
 
 
 class Request(ctypes.Structure):
@@ -109,4 +109,6 @@ step_sends = _function("step_sends", Verb, _Kept)
 release_sends = _function("release_sends", Verb, _Kept)
 step_takes = _function("step_takes", Told, _Kept, _number(c_uint64))
 release_takes = _function("release_takes", Told, _Kept, _number(c_uint64))
+care_sends = _function("care_sends", Verb, _Kept)
+care_takes = _function("care_takes", Told, _Kept, _number(c_uint64))
 split = _function("split", Counters, _number(c_uint64))

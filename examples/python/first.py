@@ -2,7 +2,8 @@
 """
 Requests through their life on one word in memory, and what they are told, line by line. first.expected is what this prints.
 
-First a writer and two readers on a fresh word. Then the ceiling: 32,768 tickets of a kind are given, and the word has to be cleared.
+First a writer and two readers on a fresh word. Then the ceiling: 32,768 tickets of a kind are given, and the word has to be cleared. Then
+the node of all three is lost, and a caretaker ends its requests.
 """
 import ctypes
 import sys
@@ -22,6 +23,7 @@ TOLD = {
     brancove.TOLD_CLEARED: "cleared",
     brancove.TOLD_NOT_YET_CLEAR: "not yet clear",
     brancove.TOLD_PASSED: "passed",
+    brancove.TOLD_FREED_UNASKED: "freed unasked",
 }
 
 
@@ -51,9 +53,17 @@ def release(request):
     say(request, "lets go", brancove.release_takes(request, send(brancove.release_sends(request))))
 
 
-def ask(request, mode):
+def care(request):
+    say(request, "is cared for", brancove.care_takes(request, send(brancove.care_sends(request))))
+
+
+def prepare(request, mode):
     if brancove.ask(request, 0, mode) != brancove.ACCEPTED:  # for record 0; nothing is sent yet
         sys.exit("an ask was refused")
+
+
+def ask(request, mode):
+    prepare(request, mode)
     step(request, "asks")
 
 
@@ -81,3 +91,14 @@ step(slow, "takes its 1 back")
 step(writer, "clears")
 ask(slow, brancove.READER)     # and it goes on
 release(slow)
+
+print()
+ask(writer, brancove.WRITER)
+ask(slow, brancove.READER)
+prepare(quick, brancove.READER)
+print("their node is lost: the writer holds, the slow reader waits, the quick reader has not asked")
+lost = [slow, writer, quick]   # the node is fenced, and no verb of it is under way: docs/AGENT.md
+while lost:
+    for request in lost:
+        care(request)          # the slow one waits for the writer, is then granted, then released
+    lost = [request for request in lost if request.phase != brancove.PHASE_FREE]

@@ -13,6 +13,7 @@ mod dice;
 #[allow(dead_code)]
 mod word;
 
+use std::fmt::{Debug, Display};
 use std::process::ExitCode;
 
 use agent::{Phase, Request, Ticket};
@@ -65,11 +66,46 @@ mod c {
         pub fn brancove_ask(q: *mut Request, record: u16, mode: u8) -> u8;
         pub fn brancove_step_sends(q: *mut Request) -> Verb;
         pub fn brancove_release_sends(q: *mut Request) -> Verb;
+        pub fn brancove_care_sends(q: *mut Request) -> Verb;
         pub fn brancove_step_takes(q: *mut Request, result: u64) -> Told;
         pub fn brancove_release_takes(q: *mut Request, result: u64) -> Told;
+        pub fn brancove_care_takes(q: *mut Request, result: u64) -> Told;
         pub fn brancove_split(word: u64) -> Counters;
     }
 }
+
+/// What is done with a request in use: what the reference sends and takes for it, and what the archive does.
+struct Act {
+    name: &'static str,
+    verb: fn(&Request) -> Option<Verb>,
+    take: fn(&mut Request, u64) -> Answer,
+    sends: unsafe extern "C" fn(*mut c::Request) -> c::Verb,
+    takes: unsafe extern "C" fn(*mut c::Request, u64) -> c::Told,
+}
+
+const STEP: Act = Act {
+    name: "step",
+    verb: Request::step_verb,
+    take: Request::step_take,
+    sends: c::brancove_step_sends,
+    takes: c::brancove_step_takes,
+};
+
+const RELEASE: Act = Act {
+    name: "release",
+    verb: Request::release_verb,
+    take: Request::release_take,
+    sends: c::brancove_release_sends,
+    takes: c::brancove_release_takes,
+};
+
+const CARE: Act = Act {
+    name: "care",
+    verb: Request::care_verb,
+    take: Request::care_take,
+    sends: c::brancove_care_sends,
+    takes: c::brancove_care_takes,
+};
 
 fn in_c(request: &Request) -> c::Request {
     c::Request {
@@ -130,8 +166,8 @@ fn called<T>(request: &Request, call: impl FnOnce(*mut c::Request) -> T) -> (c::
     (table[1], answer)
 }
 
-fn same<T: PartialEq + std::fmt::Debug>(
-    what: &str,
+fn same<T: PartialEq + Debug>(
+    what: impl Display,
     given: &Request,
     result: u64,
     ours: T,
@@ -145,36 +181,27 @@ fn same<T: PartialEq + std::fmt::Debug>(
     ))
 }
 
-/// Sends and takes of step and release.
+/// Sends and takes of a step, a release and a care.
 fn compare(given: &Request, result: u64) -> Result<(), String> {
-    // SAFETY: here and below the pointer is to one request that lives and is used by nobody else.
-    let theirs = called(given, |q| unsafe { c::brancove_step_sends(q) });
-    same(
-        "step_sends",
-        given,
-        result,
-        (in_c(given), verb_in_c(given.step_verb())),
-        theirs,
-    )?;
+    for act in [STEP, RELEASE, CARE] {
+        let name = act.name;
+        let ours = (in_c(given), verb_in_c((act.verb)(given)));
+        // SAFETY: here and below the pointer is to one request that lives and is used by nobody else.
+        let theirs = called(given, |q| unsafe { (act.sends)(q) });
+        same(format_args!("{name}_sends"), given, result, ours, theirs)?;
 
-    let theirs = called(given, |q| unsafe { c::brancove_release_sends(q) });
-    same(
-        "release_sends",
-        given,
-        result,
-        (in_c(given), verb_in_c(given.release_verb())),
-        theirs,
-    )?;
-
-    let mut after = *given;
-    let told = told_in_c(after.step_take(result));
-    let theirs = called(given, |q| unsafe { c::brancove_step_takes(q, result) });
-    same("step_takes", given, result, (in_c(&after), told), theirs)?;
-
-    let mut after = *given;
-    let told = told_in_c(after.release_take(result));
-    let theirs = called(given, |q| unsafe { c::brancove_release_takes(q, result) });
-    same("release_takes", given, result, (in_c(&after), told), theirs)
+        let mut after = *given;
+        let told = told_in_c((act.take)(&mut after, result));
+        let theirs = called(given, |q| unsafe { (act.takes)(q, result) });
+        same(
+            format_args!("{name}_takes"),
+            given,
+            result,
+            (in_c(&after), told),
+            theirs,
+        )?;
+    }
+    Ok(())
 }
 
 fn compare_ask(given: &Request, record: u16, mode: u8) -> Result<(), String> {
@@ -306,61 +333,119 @@ fn by_chance(dice: &mut Dice, requests: u64) -> Result<(), String> {
     Ok(())
 }
 
-/// The archive's requests live on words of their own beside the reference's, from words just below a ceiling.
-fn lives(dice: &mut Dice, calls: u64) -> Result<u64, String> {
-    const REQUESTS: usize = 24;
-    let mut cleared = 0;
-    for _ in 0..calls / 4_000 {
+/// Requests of the reference and of the archive, side by side, each with a word of its own for all of them.
+struct Lives {
+    word: u64,
+    their_word: u64,
+    ours: [Request; LIVES],
+    theirs: [c::Request; LIVES],
+    /// Those that a caretaker has taken over. They stay its own until they are free.
+    lost: [bool; LIVES],
+    cares: u64,
+    unasked: u64,
+    cleared: u64,
+}
+
+const LIVES: usize = 24;
+
+impl Lives {
+    fn on(word: u64) -> Self {
+        Lives {
+            word,
+            their_word: word,
+            ours: [Request::FREE; LIVES],
+            theirs: [in_c(&Request::FREE); LIVES],
+            lost: [false; LIVES],
+            cares: 0,
+            unasked: 0,
+            cleared: 0,
+        }
+    }
+
+    /// One turn of a request. Newcomers are few, so that clearing comes; one turn in 32 is its node's last.
+    fn turn(&mut self, at: usize, dice: &mut Dice) -> Result<(), String> {
+        let phase = self.ours[at].phase();
+        if phase == Phase::Free {
+            return match dice.below(16) {
+                0 => self.ask(at, dice.below(2) as u8),
+                _ => Ok(()),
+            };
+        }
+        self.lost[at] |= dice.below(32) == 0;
+        if self.lost[at] {
+            return self.take_care(at);
+        }
+        match phase {
+            Phase::Held => self.play(at, &RELEASE)?,
+            _ => self.play(at, &STEP)?,
+        };
+        Ok(())
+    }
+
+    fn ask(&mut self, at: usize, mode: u8) -> Result<(), String> {
+        let given = self.ours[at];
+        self.ours[at] = Request::opened(at as u16, mode);
+        self.lost[at] = false;
+        let number = unsafe { c::brancove_ask(&mut self.theirs[at], at as u16, mode) };
+        let (ours, theirs) = (in_c(&self.ours[at]), self.theirs[at]);
+        same("ask", &given, self.word, (ours, 0), (theirs, number))
+    }
+
+    /// Cares until the request is free, or is told to wait for others.
+    fn take_care(&mut self, at: usize) -> Result<(), String> {
+        loop {
+            let told = self.play(at, &CARE)?;
+            self.cares += 1;
+            self.unasked += u64::from(told.outcome == 12);
+            if matches!(told.outcome, 3 | 9) || self.ours[at].phase() == Phase::Free {
+                return Ok(());
+            }
+        }
+    }
+
+    /// Sends a verb on either side, where there is one, and takes its result. Requests, answers and words must be equal then.
+    fn play(&mut self, at: usize, act: &Act) -> Result<c::Told, String> {
+        let given = self.ours[at];
+        let verb = (act.verb)(&given);
+        let returned = verb.map_or(0, |verb| verb.send(&mut self.word));
+        let told = told_in_c((act.take)(&mut self.ours[at], returned));
+
+        let their = &mut self.theirs[at];
+        let returned = send(unsafe { (act.sends)(their) }, &mut self.their_word);
+        let their_told = unsafe { (act.takes)(their, returned) };
+        same(
+            format_args!("a life's {}", act.name),
+            &given,
+            self.word,
+            (in_c(&self.ours[at]), told, self.word),
+            (*their, their_told, self.their_word),
+        )?;
+        self.cleared += u64::from(told.outcome == 8);
+        Ok(told)
+    }
+}
+
+/// Lives from words just below a ceiling. Gives how many cares there were, how many of them freed unasked, and how many words were cleared.
+fn lives(dice: &mut Dice, turns: u64) -> Result<[u64; 3], String> {
+    let mut counts = [0; 3];
+    for _ in 0..turns / 4_000 {
         let (writers, readers) = match dice.below(3) {
             0 => (32_760, dice.below(32_000) as u16),
             1 => (dice.below(32_000) as u16, 32_760),
             _ => (32_766, 32_766),
         };
-        let start = Counters::new(writers, readers, writers, readers).word();
-        let (mut word, mut their_word) = (start, start);
-        let mut ours = [Request::FREE; REQUESTS];
-        let mut theirs = [in_c(&Request::FREE); REQUESTS];
+        let mut lives = Lives::on(Counters::new(writers, readers, writers, readers).word());
         for _ in 0..4_000 {
-            let at = dice.below(REQUESTS as u64) as usize;
-            let (our, their) = (&mut ours[at], &mut theirs[at]);
-            let given = *our;
-            let (answer, their_answer) = match our.phase() {
-                // Newcomers are few, so that clearing comes.
-                Phase::Free if dice.below(16) != 0 => continue,
-                Phase::Free => {
-                    let mode = dice.below(2) as u8;
-                    *our = Request::opened(at as u16, mode);
-                    let number = unsafe { c::brancove_ask(their, at as u16, mode) };
-                    same("ask", &given, word, 0, number)?;
-                    continue;
-                }
-                Phase::Held => {
-                    let returned = our.release_verb().expect("a verb").send(&mut word);
-                    let verb = unsafe { c::brancove_release_sends(their) };
-                    let their_returned = send(verb, &mut their_word);
-                    let told = unsafe { c::brancove_release_takes(their, their_returned) };
-                    (our.release_take(returned), told)
-                }
-                _ => {
-                    let returned = our.step_verb().expect("a verb").send(&mut word);
-                    let verb = unsafe { c::brancove_step_sends(their) };
-                    let their_returned = send(verb, &mut their_word);
-                    let told = unsafe { c::brancove_step_takes(their, their_returned) };
-                    (our.step_take(returned), told)
-                }
-            };
-            let answer = told_in_c(answer);
-            cleared += u64::from(answer.outcome == 8);
-            same(
-                "a life",
-                &given,
-                word,
-                (in_c(our), answer, word),
-                (*their, their_answer, their_word),
-            )?;
+            lives.turn(dice.below(LIVES as u64) as usize, dice)?;
+        }
+        for (all, one) in counts
+            .iter_mut()
+            .zip([lives.cares, lives.unasked, lives.cleared])
+        {
+            *all += one;
         }
     }
-    Ok(cleared)
+    Ok(counts)
 }
 
 /// Performs a verb as the header says it.
@@ -378,16 +463,16 @@ fn all(seed: u64, requests: u64) -> Result<(), String> {
     let mut dice = Dice::seeded(seed);
     println!("agents: seed {seed}");
     println!(
-        "agents: {} requests on edges, four functions each: equal",
+        "agents: {} requests on edges, six functions each: equal",
         edges()?
     );
     println!("agents: {} asks: equal", asks()?);
     by_chance(&mut dice, requests)?;
-    println!("agents: {requests} requests by chance, six functions each: equal");
-    let calls = requests / 4_000 * 4_000;
+    println!("agents: {requests} requests by chance, eight functions each: equal");
+    let turns = requests / 4_000 * 4_000;
+    let [cares, unasked, cleared] = lives(&mut dice, turns)?;
     println!(
-        "agents: {calls} turns of lives on words near the ceiling, {} times cleared: equal",
-        lives(&mut dice, calls)?
+        "agents: {turns} turns of lives on words near the ceiling, {cares} cares, {unasked} freed unasked, {cleared} times cleared: equal"
     );
     Ok(())
 }

@@ -1,10 +1,11 @@
 //! Makes a schedule shorter while it still shows what it shows: parts are left out, halves first, then single records.
-//! A step or a release is kept as one of the request that it meant, so that it follows its request into another slot.
+//! A step, a release or a care is kept as one of the request that it meant, so that it follows its request into another slot.
 
 use crate::agent::Phase;
 use crate::answer::Outcome;
 use crate::board::Board;
 use crate::player::WORDS;
+use crate::run::make;
 use crate::schedule::{Call, Next, Reader};
 
 #[derive(Clone, Copy)]
@@ -16,15 +17,11 @@ enum Of {
 
 #[derive(Clone, Copy)]
 enum Part {
-    Open {
-        record: u16,
-        mode: u8,
-    },
+    /// A call that names no slot.
+    Call(Call),
     Step(Of),
     Release(Of),
-    Show {
-        record: u16,
-    },
+    Care(Of),
     /// A byte behind the last whole record.
     Byte(u8),
 }
@@ -61,18 +58,9 @@ impl Traced {
     }
 
     fn make(&mut self, call: Call, at: usize) {
-        let _ = match call {
-            Call::Open { record, mode } => {
-                let answer = self.board.open(record.into(), mode.into());
-                if let Ok(Outcome::Opened { slot }) = answer {
-                    self.opened_by[usize::from(slot)] = at;
-                }
-                answer
-            }
-            Call::Step { slot } => self.board.step(slot.into()),
-            Call::Release { slot } => self.board.release(slot.into()),
-            Call::Show { record } => self.board.show(record.into()),
-        };
+        if let Ok(Outcome::Opened { slot }) = make(&mut self.board, call) {
+            self.opened_by[usize::from(slot)] = at;
+        }
     }
 }
 
@@ -82,10 +70,10 @@ fn parts_of(schedule: &[u8]) -> Vec<(usize, Part)> {
     let mut parts = Vec::new();
     while let Next::Record { call, length } = reader.look() {
         let part = match call {
-            Call::Open { record, mode } => Part::Open { record, mode },
             Call::Step { slot } => Part::Step(traced.of(slot)),
             Call::Release { slot } => Part::Release(traced.of(slot)),
-            Call::Show { record } => Part::Show { record },
+            Call::Care { slot } => Part::Care(traced.of(slot)),
+            _ => Part::Call(call),
         };
         traced.make(call, parts.len());
         parts.push((parts.len(), part));
@@ -97,16 +85,16 @@ fn parts_of(schedule: &[u8]) -> Vec<(usize, Part)> {
     parts
 }
 
-/// The bytes of some of the parts. Steps and releases of requests that are not there are left out.
+/// The bytes of some of the parts. Steps, releases and cares of requests that are not there are left out.
 fn bytes_of(parts: &[(usize, Part)]) -> Vec<u8> {
     let mut traced = Traced::new();
     let mut bytes = Vec::new();
     for &(at, part) in parts {
         let call = match part {
-            Part::Open { record, mode } => Some(Call::Open { record, mode }),
+            Part::Call(call) => Some(call),
             Part::Step(of) => traced.slot(of).map(|slot| Call::Step { slot }),
             Part::Release(of) => traced.slot(of).map(|slot| Call::Release { slot }),
-            Part::Show { record } => Some(Call::Show { record }),
+            Part::Care(of) => traced.slot(of).map(|slot| Call::Care { slot }),
             Part::Byte(byte) => {
                 bytes.push(byte);
                 None

@@ -136,6 +136,24 @@ impl Request {
         Ok(Outcome::ClearingDue)
     }
 
+    /// The verb of a care, by a caretaker in the place of a lost node: none for a request that has not asked.
+    pub fn care_verb(&self) -> Option<Verb> {
+        match self.phase() {
+            Phase::Asking => None,
+            Phase::Held => self.release_verb(),
+            _ => self.step_verb(),
+        }
+    }
+
+    /// Takes what a care's verb returned. A request that has not asked is freed, and what is handed over is not looked at.
+    pub fn care_take(&mut self, returned: u64) -> Answer {
+        match self.phase() {
+            Phase::Asking => Ok(self.leave_with(Outcome::FreedUnasked)),
+            Phase::Held => self.release_take(returned),
+            _ => self.step_take(returned),
+        }
+    }
+
     fn one_more_ticket(&self) -> u64 {
         match self.mode() {
             Mode::Reader => ONE_MORE_M_S,
@@ -376,8 +394,10 @@ mod tests {
             let mut request = free;
             assert_eq!(request.phase(), Phase::Free);
             assert_eq!((request.step_verb(), request.release_verb()), (None, None));
+            assert_eq!(request.care_verb(), None);
             assert_eq!(request.step_take(1), Err(Refusal::WrongPhase));
             assert_eq!(request.release_take(1), Err(Refusal::WrongPhase));
+            assert_eq!(request.care_take(1), Err(Refusal::WrongPhase));
             assert_eq!(request, free);
         }
         let (_, request, after) = ask(7, Counters::of(0));
@@ -425,6 +445,63 @@ mod tests {
     #[test]
     fn the_number_ahead_of_a_reader_fits_in_a_counter() {
         assert_eq!(widest(READER), Ok(Outcome::Waiting { ahead: 65_535 }));
+    }
+
+    #[test]
+    fn a_care_of_a_request_that_has_not_asked_sends_nothing_and_frees_it() {
+        for mode in [READER, WRITER, 7] {
+            for returned in [0, 1, 32_768, u64::MAX] {
+                let mut request = Request::opened(9, mode);
+                assert_eq!(request.care_verb(), None);
+                assert_eq!(request.care_take(returned), Ok(Outcome::FreedUnasked));
+                assert_eq!(request, Request::FREE);
+            }
+        }
+    }
+
+    /// A caretaker's turn: the verb is sent and its result taken.
+    fn care(request: &mut Request, word: &mut u64) -> Outcome {
+        let returned = request.care_verb().expect("a verb to send").send(word);
+        request.care_take(returned).expect("an accepted care")
+    }
+
+    #[test]
+    fn cares_end_a_request_in_its_turn() {
+        // The last writer below the ceiling waits for the one before it, and another is turned away.
+        let mut word = Counters::new(32_766, 5, 32_767, 5).word();
+        let mut last = Request::opened(9, WRITER);
+        let mut late = Request::opened(9, WRITER);
+        assert_eq!(step(&mut last, &mut word), Outcome::Waiting { ahead: 1 });
+        assert_eq!(step(&mut late, &mut word), Outcome::Full);
+
+        assert_eq!(care(&mut last, &mut word), Outcome::Waiting { ahead: 1 });
+        assert_eq!(last.phase(), Phase::Waiting);
+        word += ONE_MORE_N_X;
+        assert_eq!(care(&mut last, &mut word), Outcome::Granted);
+        assert_eq!(Counters::of(word), Counters::new(32_767, 5, 32_769, 5));
+        assert_eq!(care(&mut last, &mut word), Outcome::ClearingDue);
+        assert_eq!(Counters::of(word), Counters::new(32_768, 5, 32_769, 5));
+        assert_eq!(care(&mut last, &mut word), Outcome::NotYetClear);
+        assert_eq!(care(&mut late, &mut word), Outcome::Withdrawn);
+        assert_eq!(Counters::of(word), Counters::new(32_768, 5, 32_768, 5));
+        assert_eq!(care(&mut last, &mut word), Outcome::Cleared);
+        assert_eq!((last, late, word), (Request::FREE, Request::FREE, 0));
+
+        // A reader that holds, and one that comes too late.
+        let (_, mut reader, seen) = ask(READER, Counters::of(0));
+        word = seen.word();
+        assert_eq!(care(&mut reader, &mut word), Outcome::Released);
+        assert_eq!(
+            (reader, Counters::of(word)),
+            (Request::FREE, Counters::new(0, 1, 0, 1))
+        );
+        reader = Request {
+            phase: Phase::Waiting as u8,
+            ..Request::opened(9, READER)
+        };
+        word = ONE_MORE_N_X;
+        assert_eq!(care(&mut reader, &mut word), Outcome::Passed);
+        assert_eq!((reader, word), (Request::FREE, ONE_MORE_N_X));
     }
 
     #[test]

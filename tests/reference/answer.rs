@@ -10,6 +10,9 @@ pub enum Refusal {
     WrongPhase,
     AllSlotsInUse,
     WrongNumberOfWords,
+    OpenByAFencedNode,
+    SlotOfAFencedNode,
+    SlotOfAnUnfencedNode,
 }
 
 impl Refusal {
@@ -22,6 +25,9 @@ impl Refusal {
             Refusal::WrongPhase => 5,
             Refusal::AllSlotsInUse => 6,
             Refusal::WrongNumberOfWords => 9,
+            Refusal::OpenByAFencedNode => 14,
+            Refusal::SlotOfAFencedNode => 15,
+            Refusal::SlotOfAnUnfencedNode => 16,
         }
     }
 }
@@ -40,6 +46,8 @@ pub enum Outcome {
     NotYetClear,
     Shown { word: u64 },
     Passed,
+    FreedUnasked,
+    Fenced,
 }
 
 impl Outcome {
@@ -56,6 +64,8 @@ impl Outcome {
             Outcome::NotYetClear => 9,
             Outcome::Shown { .. } => 10,
             Outcome::Passed => 11,
+            Outcome::FreedUnasked => 12,
+            Outcome::Fenced => 13,
         }
     }
 

@@ -1,5 +1,6 @@
 //! The stored case schedules, in the order in which they are played.
 
+use crate::lost;
 use crate::player::MOST_INPUT_BYTES;
 use crate::random::{plans, Damage};
 use crate::run::{BODY_CUT_SHORT, UNKNOWN_KIND};
@@ -16,7 +17,7 @@ pub struct Case {
 }
 
 impl Case {
-    fn by_hand(name: impl Into<String>, script: Script) -> Self {
+    pub fn by_hand(name: impl Into<String>, script: Script) -> Self {
         Case {
             name: name.into(),
             schedule: script.schedule(),
@@ -24,7 +25,7 @@ impl Case {
         }
     }
 
-    fn of_bytes(name: impl Into<String>, schedule: Vec<u8>) -> Self {
+    pub fn of_bytes(name: impl Into<String>, schedule: Vec<u8>) -> Self {
         Case {
             name: name.into(),
             schedule,
@@ -92,6 +93,7 @@ pub fn all() -> Vec<Case> {
         Case::by_hand("every_refusal_number", every_refusal_number()),
         Case::by_hand("show_of_every_record", show_of_every_record()),
     ];
+    cases.extend(lost::played());
     cases.extend(unknown_kinds());
     cases.extend(cut_bodies());
     cases.extend(long_inputs());
@@ -516,7 +518,7 @@ fn show_of_every_record() -> Script {
 
 /// A kind that does not exist ends the run. What follows is never read.
 fn unknown_kinds() -> Vec<Case> {
-    [0, 5, 255]
+    [0, 8, 255]
         .map(|kind| {
             let mut tail = vec![kind];
             tail.extend(step(0).bytes());
@@ -550,6 +552,13 @@ fn cut_bodies() -> Vec<Case> {
         cut("cut_release_with_0_body_bytes_at_the_end", &[3]),
         cut("cut_show_with_0_body_bytes_at_the_end", &[4]),
         cut("cut_show_with_1_body_byte_at_the_end", &[4, 0]),
+        cut("cut_open_for_a_node_with_0_body_bytes_at_the_end", &[5]),
+        cut(
+            "cut_open_for_a_node_with_3_body_bytes_at_the_end",
+            &[5, 0, 0, 0],
+        ),
+        cut("cut_fence_with_0_body_bytes_at_the_end", &[6]),
+        cut("cut_care_with_0_body_bytes_at_the_end", &[7]),
         alone("cut_open_and_nothing_else", &[1, 0, 0]),
         alone("cut_step_and_nothing_else", &[2]),
         Case::by_hand(
@@ -630,14 +639,25 @@ fn random_calls() -> Vec<Case> {
         .enumerate()
         .map(|(at, plan)| {
             let number = at + 1;
-            let name = match plan.damage {
-                Damage::None => format!("random_calls_{number:02}"),
-                Damage::ChangedBytes(_) => format!("random_calls_{number:02}_with_changed_bytes"),
-                Damage::CutShort => format!("random_calls_{number:02}_cut_short"),
+            let lost = if plan.nodes > 0 {
+                "_and_lost_nodes"
+            } else {
+                ""
             };
+            let damage = match plan.damage {
+                Damage::None => "",
+                Damage::ChangedBytes(_) => "_with_changed_bytes",
+                Damage::CutShort => "_cut_short",
+            };
+            let name = format!("random_calls_{number:02}{lost}{damage}");
             Case::of_bytes(name, plan.schedule())
         })
         .collect()
+}
+
+/// The schedules that are repaired, in the order in which they are played.
+pub fn repaired() -> Vec<Case> {
+    lost::repaired()
 }
 
 /// The schedules that the pages under examples/ explain.
@@ -647,7 +667,13 @@ pub fn examples() -> Vec<Case> {
         Case::by_hand("slow_reader", slow_reader()),
         Case::by_hand("writer_behind_readers", writer_behind_readers()),
         Case::by_hand("wrong_calls", wrong_calls()),
+        Case::by_hand("lost_node", lost::lost_node()),
     ]
+}
+
+/// The same for examples/repair/.
+pub fn repaired_examples() -> Vec<Case> {
+    vec![Case::by_hand("lost_node", lost::lost_node_repaired())]
 }
 
 /// Calls that are refused with their numbers, and a last byte that ends the run.
@@ -678,16 +704,20 @@ mod tests {
 
     #[test]
     fn every_entry_set_by_hand_is_computed() {
-        for case in all().iter().chain(&examples()) {
+        for case in [all(), examples(), repaired(), repaired_examples()]
+            .iter()
+            .flatten()
+        {
             assert_eq!(case.compare(), Ok(()));
         }
     }
 
     #[test]
     fn names_differ() {
-        let cases = all();
-        let names: HashSet<&str> = cases.iter().map(|case| case.name.as_str()).collect();
-        assert_eq!(names.len(), cases.len());
+        for cases in [all(), repaired()] {
+            let names: HashSet<&str> = cases.iter().map(|case| case.name.as_str()).collect();
+            assert_eq!(names.len(), cases.len());
+        }
     }
 
     #[test]
@@ -737,6 +767,11 @@ mod tests {
             (3, 0),
             (4, 0),
             (5, 0),
+            (0, 12),
+            (0, 13),
+            (14, 0),
+            (15, 0),
+            (16, 0),
         ];
         assert!(expected.iter().all(|pair| seen.contains(pair)), "{seen:?}");
         assert_eq!(endings, HashSet::from([0, 7, 8]));

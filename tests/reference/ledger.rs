@@ -2,11 +2,14 @@
 //! It never reads a lock word to foretell an answer.
 
 use std::collections::HashMap;
-use std::slice;
 
-use crate::answer::Outcome;
-use crate::board::Board;
+use crate::agent::Phase;
+use crate::answer::{Answer, Outcome, Refusal};
+use crate::board::{Board, NODES, SLOTS};
 use crate::dice::Dice;
+use crate::repair::{care_for, none_leads_further, pass, passes, repair, Care};
+use crate::run::make;
+use crate::schedule::Call;
 use crate::word::{Counters, CEIL};
 
 #[derive(Clone, Copy, Debug, PartialEq, Eq)]
@@ -18,9 +21,30 @@ enum State {
     Clears,
 }
 
+impl State {
+    fn phase(self) -> Phase {
+        match self {
+            State::Open => Phase::Asking,
+            State::Holds { .. } => Phase::Held,
+            State::Waits { .. } => Phase::Waiting,
+            State::OwesWithdrawal => Phase::Owing,
+            State::Clears => Phase::Clearing,
+        }
+    }
+}
+
+/// Who stands in a slot.
+#[derive(Clone, Copy, Debug)]
+struct User {
+    writer: bool,
+    node: u8,
+    state: State,
+}
+
 #[derive(Clone, Copy)]
 struct Ticket {
     writer: bool,
+    node: u8,
     released: bool,
 }
 
@@ -34,21 +58,32 @@ fn number_of(tickets: &[Ticket], counted: impl Fn(Ticket) -> bool) -> usize {
     tickets.iter().filter(|ticket| counted(**ticket)).count()
 }
 
+/// The nodes that were fenced so far.
+#[derive(Clone)]
+struct Fences([bool; NODES]);
+
+impl Fences {
+    fn hold(&self, node: u8) -> bool {
+        self.0[usize::from(node)]
+    }
+}
+
 /// One record's tickets since it began or was last cleared, and who stands in which slot for it.
+#[derive(Clone)]
 struct Ledger {
-    record: u64,
+    record: u16,
     tickets: Vec<Ticket>,
-    slots: Vec<Option<(bool, State)>>,
+    slots: Vec<Option<User>>,
     times_cleared: u32,
     times_only_a_withdrawal_stood_in_the_way: u32,
 }
 
 impl Ledger {
-    fn of(record: u64) -> Self {
+    fn of(record: u16) -> Self {
         Ledger {
             record,
             tickets: Vec::new(),
-            slots: vec![None; 256],
+            slots: vec![None; SLOTS],
             times_cleared: 0,
             times_only_a_withdrawal_stood_in_the_way: 0,
         }
@@ -78,13 +113,30 @@ impl Ledger {
         }
     }
 
+    /// The ticket of whoever waits in this slot.
+    fn ticket_of(&self, slot: u8) -> usize {
+        match self.slots[usize::from(slot)].map(|user| user.state) {
+            Some(State::Waits { ticket }) => ticket,
+            other => panic!("nobody waits there: {other:?}"),
+        }
+    }
+
     fn every_ticket_is_released(&self) -> bool {
         self.tickets.iter().all(|ticket| ticket.released)
     }
 
-    fn a_withdrawal_is_owed(&self) -> bool {
-        let mut in_use = self.slots.iter().flatten();
-        in_use.any(|(_, state)| *state == State::OwesWithdrawal)
+    fn withdrawals_owed(&self, of_whom: impl Fn(&User) -> bool) -> usize {
+        let users = self.slots.iter().flatten();
+        users
+            .filter(|user| user.state == State::OwesWithdrawal && of_whom(user))
+            .count()
+    }
+
+    /// The node of whoever has to clear.
+    fn clearer(&self) -> Option<u8> {
+        let mut users = self.slots.iter().flatten();
+        let clearer = users.find(|user| user.state == State::Clears);
+        clearer.map(|user| user.node)
     }
 
     fn nobody_holds_beside_a_writer(&self) -> bool {
@@ -92,61 +144,118 @@ impl Ledger {
             .slots
             .iter()
             .flatten()
-            .filter(|(_, state)| matches!(state, State::Holds { .. }))
-            .map(|(writer, _)| *writer)
+            .filter(|user| matches!(user.state, State::Holds { .. }))
+            .map(|user| user.writer)
             .collect();
         holders.len() <= 1 || !holders.contains(&true)
     }
 
-    fn open(&mut self, board: &mut Board, writer: bool) {
-        match board.open(self.record, u64::from(writer)) {
+    /// The lock word that these tickets and withdrawals make.
+    fn word(&self) -> Counters {
+        let [readers, writers] = [false, true].map(|writer| {
+            let released = number_of(&self.tickets, |ticket| {
+                ticket.writer == writer && ticket.released
+            });
+            let asked = self.given(writer) + self.withdrawals_owed(|user| user.writer == writer);
+            [released as u16, asked as u16]
+        });
+        Counters::new(writers[0], readers[0], writers[1], readers[1])
+    }
+
+    /// Writes down a call on this record or on a slot that is its own or free, and its answer.
+    fn take(&mut self, call: Call, answer: Answer, fences: &Fences) {
+        match call {
+            Call::Open { mode, .. } => self.open(answer, mode == 1, 0, fences),
+            Call::OpenFor { mode, node, .. } => self.open(answer, mode == 1, node, fences),
+            Call::Show { .. } => {
+                let word = self.word().word();
+                assert_eq!(answer, Ok(Outcome::Shown { word }));
+            }
+            Call::Fence { .. } => unreachable!("a fence is of no record"),
+            Call::Step { slot } | Call::Release { slot } | Call::Care { slot } => {
+                let Some(user) = self.slots[usize::from(slot)] else {
+                    return assert_eq!(answer, Err(Refusal::SlotFree));
+                };
+                self.slots[usize::from(slot)] = self.after(call, user, answer, fences);
+            }
+        }
+    }
+
+    fn open(&mut self, answer: Answer, writer: bool, node: u8, fences: &Fences) {
+        match answer {
+            _ if fences.hold(node) => assert_eq!(answer, Err(Refusal::OpenByAFencedNode)),
             Ok(Outcome::Opened { slot }) => {
-                self.slots[usize::from(slot)] = Some((writer, State::Open))
+                let state = State::Open;
+                self.slots[usize::from(slot)] = Some(User {
+                    writer,
+                    node,
+                    state,
+                })
             }
             _ => assert!(self.slots.iter().all(Option::is_some)),
         }
     }
 
-    fn step(&mut self, board: &mut Board, slot: usize) {
-        let answer = board.step(slot as u64);
-        let Some((writer, state)) = self.slots[slot] else {
-            return assert!(answer.is_err());
+    /// Who stands there after a call on the slot. A care is the step or the release that it makes; where nothing was asked yet
+    /// it is neither.
+    fn after(&mut self, call: Call, user: User, answer: Answer, fences: &Fences) -> Option<User> {
+        let refused = |refusal| {
+            assert_eq!(answer, Err(refusal));
+            Some(user)
         };
-        self.slots[slot] = match state {
+        match (call, user.state) {
+            (Call::Care { .. }, _) if !fences.hold(user.node) => {
+                refused(Refusal::SlotOfAnUnfencedNode)
+            }
+            (Call::Care { .. }, State::Open) => {
+                assert_eq!(answer, Ok(Outcome::FreedUnasked));
+                None
+            }
+            (Call::Step { .. } | Call::Release { .. }, _) if fences.hold(user.node) => {
+                refused(Refusal::SlotOfAFencedNode)
+            }
+            (Call::Step { .. }, State::Holds { .. }) => refused(Refusal::WrongPhase),
+            (_, State::Holds { ticket }) => self.after_release(user, ticket, answer),
+            (Call::Release { .. }, _) => refused(Refusal::WrongPhase),
+            _ => self.after_step(user, answer),
+        }
+    }
+
+    fn after_step(&mut self, user: User, answer: Answer) -> Option<User> {
+        let state = match user.state {
             State::Open if self.at_the_ceiling() => {
                 assert_eq!(answer, Ok(Outcome::Full));
-                Some((writer, State::OwesWithdrawal))
+                State::OwesWithdrawal
             }
             State::Open => {
                 self.tickets.push(Ticket {
-                    writer,
+                    writer: user.writer,
+                    node: user.node,
                     released: false,
                 });
                 let ticket = self.tickets.len() - 1;
-                Some((writer, self.turn(answer.unwrap(), ticket).unwrap()))
+                self.turn(answer.unwrap(), ticket).unwrap()
             }
-            State::Waits { ticket } => Some((writer, self.turn(answer.unwrap(), ticket).unwrap())),
-            State::Holds { .. } => {
-                assert!(answer.is_err());
-                Some((writer, state))
-            }
+            State::Waits { ticket } => self.turn(answer.unwrap(), ticket).unwrap(),
+            State::Holds { .. } => unreachable!("no step is made of a holder"),
             State::OwesWithdrawal => {
                 assert_eq!(answer, Ok(Outcome::Withdrawn));
-                None
-            }
-            State::Clears if self.every_ticket_is_released() && !self.a_withdrawal_is_owed() => {
-                assert_eq!(answer, Ok(Outcome::Cleared));
-                self.tickets.clear();
-                self.times_cleared += 1;
-                None
+                return None;
             }
             State::Clears => {
-                assert_eq!(answer, Ok(Outcome::NotYetClear));
                 let released = self.every_ticket_is_released();
+                if released && self.withdrawals_owed(|_| true) == 0 {
+                    assert_eq!(answer, Ok(Outcome::Cleared));
+                    self.tickets.clear();
+                    self.times_cleared += 1;
+                    return None;
+                }
+                assert_eq!(answer, Ok(Outcome::NotYetClear));
                 self.times_only_a_withdrawal_stood_in_the_way += u32::from(released);
-                Some((writer, state))
+                State::Clears
             }
         };
+        Some(User { state, ..user })
     }
 
     /// The state after a turn test that told this, or both what was told and what should have been.
@@ -159,23 +268,35 @@ impl Ledger {
         }
     }
 
-    fn release(&mut self, board: &mut Board, slot: usize) {
-        let answer = board.release(slot as u64);
-        let Some((writer, State::Holds { ticket })) = self.slots[slot] else {
-            return assert!(answer.is_err());
-        };
+    fn after_release(&mut self, user: User, ticket: usize, answer: Answer) -> Option<User> {
         self.tickets[ticket].released = true;
-        let last = self.given(writer) == usize::from(CEIL)
+        let last = self.given(user.writer) == usize::from(CEIL)
             && self.tickets[ticket + 1..]
                 .iter()
-                .all(|later| later.writer != writer);
-        self.slots[slot] = if last {
-            assert_eq!(answer, Ok(Outcome::ClearingDue));
-            Some((writer, State::Clears))
-        } else {
+                .all(|later| later.writer != user.writer);
+        if !last {
             assert_eq!(answer, Ok(Outcome::Released));
-            None
+            return None;
+        }
+        assert_eq!(answer, Ok(Outcome::ClearingDue));
+        let state = State::Clears;
+        Some(User { state, ..user })
+    }
+
+    /// Whether a lost request in this state waits for a living node: for an earlier ticket, or to clear, for any ticket or withdrawal.
+    fn the_living_stand_before(&self, state: State, fences: &Fences) -> bool {
+        let among = |tickets: &[Ticket]| {
+            number_of(tickets, |ticket| {
+                !ticket.released && !fences.hold(ticket.node)
+            }) > 0
         };
+        match state {
+            State::Waits { ticket } => among(&self.tickets[..ticket]),
+            State::Clears => {
+                among(&self.tickets) || self.withdrawals_owed(|user| !fences.hold(user.node)) > 0
+            }
+            _ => false,
+        }
     }
 }
 
@@ -185,48 +306,123 @@ fn waiting(ahead: usize) -> Outcome {
     }
 }
 
+/// A board, a ledger for each record, and the fences as the calls have set them.
+#[derive(Clone)]
+struct History {
+    board: Board,
+    ledgers: Vec<Ledger>,
+    fences: Fences,
+}
+
+impl History {
+    fn fresh(records: u16) -> Self {
+        History {
+            board: Board::fresh(usize::from(records)).unwrap(),
+            ledgers: (0..records).map(Ledger::of).collect(),
+            fences: Fences([false; NODES]),
+        }
+    }
+
+    /// Which ledger has somebody in this slot.
+    fn ledger_of(&self, slot: u8) -> Option<usize> {
+        let mut ledgers = self.ledgers.iter();
+        ledgers.position(|ledger| ledger.slots[usize::from(slot)].is_some())
+    }
+
+    fn fence(&mut self, node: u8) {
+        let answer = make(&mut self.board, Call::Fence { node });
+        assert_eq!(answer, Ok(Outcome::Fenced));
+        self.fences.0[usize::from(node)] = true;
+    }
+
+    /// Makes some way of repairing and writes its cares into the ledgers.
+    fn repair_by(&mut self, way: fn(&mut Board) -> Vec<Care>) {
+        for Care {
+            slot,
+            found,
+            answer,
+        } in way(&mut self.board)
+        {
+            let at = self.ledger_of(slot).expect("a care of a slot in use");
+            let ledger = &mut self.ledgers[at];
+            let user = ledger.slots[usize::from(slot)];
+            assert_eq!(user.map(|user| user.state.phase()), Some(found));
+            ledger.take(Call::Care { slot }, answer, &self.fences);
+        }
+    }
+
+    /// Whether only those lost requests are left for which living nodes stand in the way.
+    fn is_repaired(&self) -> bool {
+        self.ledgers.iter().all(|ledger| {
+            let users = ledger.slots.iter().flatten();
+            let mut lost = users.filter(|user| self.fences.hold(user.node));
+            lost.all(|user| ledger.the_living_stand_before(user.state, &self.fences))
+        })
+    }
+}
+
 /// How random calls are drawn.
 struct Plan {
     seed: u64,
     calls: u64,
     slots: u64,
     writers_in_eight: u64,
+    /// With 0 all requests are of node 0, and there are no fences, cares and shows.
+    nodes: u64,
 }
 
 impl Plan {
     /// Plays random calls and compares each answer with what the ledger of its record foretells.
     /// Hands out the ledger, the ticket and whether it was drawn just now, wherever a request is told to wait.
-    fn follow(
-        &self,
-        board: &mut Board,
-        ledgers: &mut [Ledger],
-        mut on_wait: impl FnMut(&Ledger, usize, bool),
-    ) {
+    fn follow(&self, history: &mut History, mut on_wait: impl FnMut(&Ledger, usize, bool)) {
         let mut dice = Dice::seeded(self.seed);
         for _ in 0..self.calls {
-            let slot = dice.below(self.slots) as usize;
-            let any = dice.below(ledgers.len() as u64) as usize;
-            let user = ledgers
-                .iter()
-                .position(|ledger| ledger.slots[slot].is_some());
-            let ledger = &mut ledgers[user.unwrap_or(any)];
-            match (user, dice.below(4)) {
-                (None, 0) => ledger.open(board, dice.below(8) < self.writers_in_eight),
-                (_, 1) => ledger.release(board, slot),
-                _ => {
-                    let given = ledger.tickets.len();
-                    ledger.step(board, slot);
-                    if let Some((_, State::Waits { ticket })) = ledger.slots[slot] {
-                        on_wait(ledger, ticket, ticket == given);
-                    }
-                }
+            let slot = dice.below(self.slots) as u8;
+            let any = dice.below(history.ledgers.len() as u64) as usize;
+            let user = history.ledger_of(slot);
+            let drawn = dice.below(if self.nodes == 0 { 4 } else { 8 });
+            if drawn == 7 && dice.one_in(24) {
+                history.fence(dice.below(self.nodes) as u8);
+                continue;
             }
-            let Counters { n_x, n_s, m_x, m_s } = Counters::of(board.words[ledger.record as usize]);
+            let History {
+                board,
+                ledgers,
+                fences,
+            } = history;
+            let ledger = &mut ledgers[user.unwrap_or(any)];
+            let record = ledger.record;
+            let given = ledger.tickets.len();
+            let call = match (user, drawn) {
+                (None, 0) => {
+                    let writer = dice.below(8) < self.writers_in_eight;
+                    self.open(&mut dice, record, u8::from(writer))
+                }
+                (_, 1) => Call::Release { slot },
+                (_, 4 | 5) => Call::Care { slot },
+                (_, 6) => Call::Show { record },
+                _ => Call::Step { slot },
+            };
+            let answer = make(board, call);
+            ledger.take(call, answer, fences);
+            if let Ok(Outcome::Waiting { .. }) = answer {
+                let ticket = ledger.ticket_of(slot);
+                on_wait(ledger, ticket, ticket == given);
+            }
+            let Counters { n_x, n_s, m_x, m_s } = Counters::of(board.words[usize::from(record)]);
             assert!([n_x.0, n_s.0, m_x.0, m_s.0]
                 .iter()
                 .all(|&counter| counter <= 33_023));
             assert!(ledger.nobody_holds_beside_a_writer());
         }
+    }
+
+    fn open(&self, dice: &mut Dice, record: u16, mode: u8) -> Call {
+        if self.nodes == 0 || dice.one_in(8) {
+            return Call::Open { record, mode };
+        }
+        let node = dice.below(self.nodes) as u8;
+        Call::OpenFor { record, mode, node }
     }
 }
 
@@ -264,16 +460,15 @@ fn grants_and_numbers_follow_the_earlier_conflicting_tickets() {
     let mut refused = [0; MISTAKES.len()];
     let mut most = 0;
     for seed in 0..120 {
-        let records = [1, 1, 1, 3][seed as usize % 4];
-        let mut board = Board::fresh(records).unwrap();
-        let mut ledgers: Vec<Ledger> = (0..records as u64).map(Ledger::of).collect();
+        let mut history = History::fresh([1, 1, 1, 3][seed as usize % 4]);
         let plan = Plan {
             seed,
             calls: 3_000,
             slots: [2, 3, 4, 5, 6, 8, 10, 12, 16, 24, 40][seed as usize % 11],
             writers_in_eight: seed % 9,
+            nodes: 0,
         };
-        plan.follow(&mut board, &mut ledgers, |ledger, ticket, just_drawn| {
+        plan.follow(&mut history, |ledger, ticket, just_drawn| {
             let kind = (ledger.tickets[ticket].writer, just_drawn);
             *waits.entry(kind).or_default() += 1;
             most = most.max(ledger.ahead_of(ticket));
@@ -304,6 +499,7 @@ fn a_wrong_number_ahead_is_refused() {
     ]
     .map(|writer| Ticket {
         writer,
+        node: 0,
         released: false,
     })
     .into();
@@ -365,32 +561,203 @@ fn a_wrong_number_ahead_is_refused() {
 /// Tickets given before the random calls that meet the ceiling.
 const ALMOST: usize = 32_750;
 
+/// A history in which all these tickets were given to one kind and released.
+fn almost_at_the_ceiling(mode: u8) -> History {
+    let mut history = History::fresh(1);
+    let (record, slot) = (0, 0);
+    for _ in 0..ALMOST {
+        let [opened, granted, released] = [
+            Call::Open { record, mode },
+            Call::Step { slot },
+            Call::Release { slot },
+        ]
+        .map(|call| make(&mut history.board, call));
+        assert_eq!(opened, Ok(Outcome::Opened { slot }));
+        assert_eq!(granted, Ok(Outcome::Granted));
+        assert_eq!(released, Ok(Outcome::Released));
+        history.ledgers[0].tickets.push(Ticket {
+            writer: mode == 1,
+            node: 0,
+            released: true,
+        });
+    }
+    history
+}
+
 #[test]
 fn full_and_cleared_come_exactly_when_the_ledger_says() {
     let (mut cleared, mut withdrawals_in_the_way) = (0, 0);
     for seed in 0..40 {
-        let mut board = Board::fresh(1).unwrap();
-        let mut ledger = Ledger::of(0);
         let mode = seed % 2;
-        for _ in 0..ALMOST {
-            assert_eq!(board.open(0, mode), Ok(Outcome::Opened { slot: 0 }));
-            assert_eq!(board.step(0), Ok(Outcome::Granted));
-            assert_eq!(board.release(0), Ok(Outcome::Released));
-            let writer = mode == 1;
-            let released = true;
-            ledger.tickets.push(Ticket { writer, released });
-        }
-        let writers_in_eight = [2, 6][mode as usize];
-        let slots = 3 + seed % 9;
+        let mut history = almost_at_the_ceiling(mode as u8);
         let plan = Plan {
             seed,
             calls: 1_500,
-            slots,
-            writers_in_eight,
+            slots: 3 + seed % 9,
+            writers_in_eight: [2, 6][mode as usize],
+            nodes: 0,
         };
-        plan.follow(&mut board, slice::from_mut(&mut ledger), |_, _, _| ());
-        cleared += ledger.times_cleared;
-        withdrawals_in_the_way += ledger.times_only_a_withdrawal_stood_in_the_way;
+        plan.follow(&mut history, |_, _, _| ());
+        cleared += history.ledgers[0].times_cleared;
+        withdrawals_in_the_way += history.ledgers[0].times_only_a_withdrawal_stood_in_the_way;
     }
     assert!(cleared > 10 && withdrawals_in_the_way > 10);
+}
+
+/// A repair that leaves out the slots of one phase.
+fn without(left_out: Phase, board: &mut Board) -> Vec<Care> {
+    let pass = |board: &mut Board| {
+        let mut cares = Vec::new();
+        for at in 0..SLOTS {
+            if board.slots[at].phase() != left_out {
+                cares.extend(care_for(board, at));
+            }
+        }
+        cares
+    };
+    passes(board, pass, none_leads_further)
+}
+
+type Way = fn(&mut Board) -> Vec<Care>;
+
+/// Wrong ways to repair: they stop too early, or leave out a phase.
+const WRONG_WAYS: [(&str, Way); 8] = [
+    ("nothing is done", |_| Vec::new()),
+    ("one pass", pass),
+    ("passes until somebody is told to wait", |board| {
+        passes(board, pass, |cares| {
+            cares.is_empty() || !cares.iter().all(|care| care.leads_further())
+        })
+    }),
+    ("without those that ask", |board| {
+        without(Phase::Asking, board)
+    }),
+    ("without those that wait", |board| {
+        without(Phase::Waiting, board)
+    }),
+    ("without those that hold", |board| {
+        without(Phase::Held, board)
+    }),
+    ("without those that owe", |board| {
+        without(Phase::Owing, board)
+    }),
+    ("without those that clear", |board| {
+        without(Phase::Clearing, board)
+    }),
+];
+
+/// How often each wrong way was found out, and in which states lost requests were left by the right one.
+#[derive(Default)]
+struct Repairs {
+    found_out: [u32; WRONG_WAYS.len()],
+    left_waiting: u32,
+    left_clearing: u32,
+}
+
+impl Repairs {
+    /// Repairs a history, and copies of it in the wrong ways.
+    fn try_all(&mut self, history: &mut History) {
+        for ((_, way), times) in WRONG_WAYS.iter().zip(&mut self.found_out) {
+            let mut copy = history.clone();
+            copy.repair_by(*way);
+            *times += u32::from(!copy.is_repaired());
+        }
+        history.repair_by(repair);
+        assert!(history.is_repaired());
+        for user in history
+            .ledgers
+            .iter()
+            .flat_map(|ledger| ledger.slots.iter().flatten())
+        {
+            let lost = history.fences.hold(user.node);
+            self.left_waiting += u32::from(lost && user.state.phase() == Phase::Waiting);
+            self.left_clearing += u32::from(lost && user.state.phase() == Phase::Clearing);
+        }
+    }
+
+    /// Then every node in use is lost too, and nothing stays.
+    fn lose_all(&mut self, history: &mut History) {
+        for at in 0..SLOTS {
+            if history.board.slots[at].phase() != Phase::Free {
+                history.fence(history.board.nodes[at]);
+            }
+        }
+        self.try_all(history);
+        assert_eq!(history.board.slots_in_use(), 0);
+        for (ledger, word) in history.ledgers.iter().zip(&history.board.words) {
+            let Counters { n_x, n_s, m_x, m_s } = ledger.word();
+            assert_eq!((n_x, n_s), (m_x, m_s));
+            assert_eq!(ledger.word(), Counters::of(*word));
+        }
+    }
+}
+
+#[test]
+fn a_care_counts_as_the_step_or_release_that_it_makes() {
+    let mut waits: HashMap<(bool, bool), u32> = HashMap::new();
+    let mut repairs = Repairs::default();
+    for seed in 0..240 {
+        let mut history = History::fresh([1, 2, 1, 3][seed as usize % 4]);
+        for turn in 0..3 {
+            let plan = Plan {
+                seed: 3 * seed + turn,
+                calls: 400,
+                slots: [2, 4, 6, 8, 12, 24, 40][seed as usize % 7],
+                writers_in_eight: seed % 9,
+                nodes: [2, 4, 9, 40, 256][seed as usize % 5],
+            };
+            plan.follow(&mut history, |ledger, ticket, just_drawn| {
+                let kind = (ledger.tickets[ticket].writer, just_drawn);
+                *waits.entry(kind).or_default() += 1;
+            });
+            repairs.try_all(&mut history);
+        }
+        repairs.lose_all(&mut history);
+    }
+    assert!(
+        waits.len() == 4 && waits.values().all(|&times| times > 1_000),
+        "{waits:?}"
+    );
+    let phases_that_come_up = 6;
+    for ((way, _), times) in WRONG_WAYS
+        .iter()
+        .zip(repairs.found_out)
+        .take(phases_that_come_up)
+    {
+        assert!(times > 50, "{way}: {times} times");
+    }
+    assert!(repairs.left_waiting > 50, "{}", repairs.left_waiting);
+}
+
+/// Short turns until somebody has to clear, whose node is then lost. Other nodes were lost by chance before.
+#[test]
+fn a_lost_request_at_the_ceiling_withdraws_and_clears() {
+    let mut repairs = Repairs::default();
+    let mut cleared = 0;
+    for seed in 0..60 {
+        let mode = seed % 2;
+        let mut history = almost_at_the_ceiling(mode as u8);
+        for turn in 0..200 {
+            let plan = Plan {
+                seed: 200 * seed + turn,
+                calls: 10,
+                slots: 3 + seed % 9,
+                writers_in_eight: [2, 6][mode as usize],
+                nodes: [8, 30, 256][seed as usize % 3],
+            };
+            plan.follow(&mut history, |_, _, _| ());
+            if let Some(node) = history.ledgers[0].clearer() {
+                history.fence(node);
+                break;
+            }
+        }
+        repairs.try_all(&mut history);
+        repairs.lose_all(&mut history);
+        cleared += history.ledgers[0].times_cleared;
+    }
+    assert!(cleared > 10, "{cleared}");
+    assert!(repairs.left_clearing > 5, "{}", repairs.left_clearing);
+    for ((way, _), times) in WRONG_WAYS.iter().zip(repairs.found_out) {
+        assert!(times > 5, "{way}: {times} times");
+    }
 }

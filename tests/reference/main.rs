@@ -1,7 +1,7 @@
 //! The rules a second time, apart from the proved code, to catch mistakes in it.
 //!
 //! It is written in another shape: a board changed in place and plain Rust throughout.
-//! `reference` computes every stored output under crates/cases_*/ and every examples/*.expected.
+//! `reference` computes every stored output under crates/cases_*/ and every *.expected of the schedules under examples/.
 
 mod agent;
 mod answer;
@@ -11,8 +11,10 @@ mod ceiling;
 mod dice;
 #[cfg(test)]
 mod ledger;
+mod lost;
 mod player;
 mod random;
+mod repair;
 mod run;
 mod schedule;
 mod script;
@@ -26,10 +28,12 @@ use cases::Case;
 
 const USAGE: &str = "\
 reference play               plays the schedule on standard input
-reference ceiling 0|1        meets the ceiling of readers (0) or of writers (1)
-reference most               drives a counter to its highest value
-reference cases FOLDER       writes the case schedules and prints their names
-reference examples FOLDER    writes the example schedules and prints their names
+reference repair             plays it, then cares for the slots of fenced nodes
+reference ceiling PROGRAM    what a program prints that meets the ceiling; the programs are readers, writers,
+                             most (a counter at its highest) and care (whoever has to clear is lost)
+reference begin              what a program prints that begins its board again after a fence
+reference LIST FOLDER        writes the schedules of a list and prints their names; the lists are
+                             cases and examples, repaired_cases and repaired_examples
 ";
 
 fn main() -> ExitCode {
@@ -37,11 +41,18 @@ fn main() -> ExitCode {
     let words: Vec<&str> = arguments.iter().map(String::as_str).collect();
     let printed = match words[..] {
         ["play"] => Ok(player::printed_for(&standard_input())),
-        ["ceiling", "0"] => ceiling::printed_for_ceiling(script::READER),
-        ["ceiling", "1"] => ceiling::printed_for_ceiling(script::WRITER),
-        ["most"] => ceiling::printed_for_most(),
+        ["repair"] => Ok(repair::printed_for(&standard_input())),
+        ["ceiling", "readers"] => ceiling::printed_for_ceiling(script::READER),
+        ["ceiling", "writers"] => ceiling::printed_for_ceiling(script::WRITER),
+        ["ceiling", "most"] => ceiling::printed_for_most(),
+        ["ceiling", "care"] => ceiling::printed_for_care(),
+        ["begin"] => lost::printed_for_begin(),
         ["cases", folder] => write_schedules(Path::new(folder), &cases::all()),
         ["examples", folder] => write_schedules(Path::new(folder), &cases::examples()),
+        ["repaired_cases", folder] => write_schedules(Path::new(folder), &cases::repaired()),
+        ["repaired_examples", folder] => {
+            write_schedules(Path::new(folder), &cases::repaired_examples())
+        }
         _ => Err(USAGE.to_owned()),
     };
     let done = printed.and_then(|lines| {

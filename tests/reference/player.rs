@@ -3,6 +3,7 @@
 
 use std::fmt::Write;
 
+use crate::answer::Refusal;
 use crate::board::Board;
 use crate::run::{run, Entry, RunResult, ALLOWANCE_SPENT, ENTRY_BYTES, REPORT_FULL};
 use crate::schedule::Reader;
@@ -25,6 +26,7 @@ const BUFFERS: Buffers = Buffers {
 };
 
 /// A board, and what has been played on it so far. The ending is that of the last schedule.
+#[derive(Clone)]
 pub struct Player {
     board: Board,
     buffers: Buffers,
@@ -43,6 +45,14 @@ impl Player {
             buffers,
             totals: RunResult::default(),
         }
+    }
+
+    /// Begins the board anew with the first of its words. It has all of them afterwards, and the totals stay.
+    pub fn begin_with(&mut self, number_of_words: usize) -> Result<(), Refusal> {
+        let not_lent = self.board.words.split_off(number_of_words);
+        let begun = self.board.begin();
+        self.board.words.extend(not_lent);
+        begun
     }
 
     pub fn totals(&self) -> RunResult {
@@ -99,6 +109,10 @@ impl Player {
         );
     }
 
+    pub fn board(self) -> Board {
+        self.board
+    }
+
     pub fn end_line(&self) -> String {
         let RunResult {
             ending,
@@ -110,15 +124,21 @@ impl Player {
     }
 }
 
-/// Everything that the program prints for an input.
-pub fn printed_for(input: &[u8]) -> String {
+/// The lines for an input, and the board that it leaves. With too long an input nothing is played.
+pub fn played(input: &[u8]) -> (String, Option<Board>) {
     if input.len() > MOST_INPUT_BYTES {
-        return "end 13 0 0 0\n".to_owned();
+        return ("end 13 0 0 0\n".to_owned(), None);
     }
     let mut player = Player::on_a_fresh_board();
     let mut lines = String::new();
     player.play_aloud(input, &mut lines);
-    lines + &player.end_line()
+    lines += &player.end_line();
+    (lines, Some(player.board()))
+}
+
+/// Everything that the program prints for an input.
+pub fn printed_for(input: &[u8]) -> String {
+    played(input).0
 }
 
 #[cfg(test)]

@@ -24,6 +24,8 @@ pub struct Plan {
     pub writers_in_eight: u64,
     pub most_in_use: usize,
     pub wrong_calls_in_sixteen: u64,
+    /// Nodes that open requests and are lost now and then. With 0 no call names a node or cares for a slot.
+    pub nodes: u64,
     pub damage: Damage,
 }
 
@@ -35,7 +37,7 @@ impl Plan {
         let mut schedule = Vec::new();
         loop {
             let call = if dice.below(16) < self.wrong_calls_in_sixteen {
-                wrong_call(&mut dice)
+                self.wrong_call(&mut dice)
             } else {
                 self.fitting_call(&mut dice, &board)
             };
@@ -51,12 +53,15 @@ impl Plan {
 
     fn fitting_call(&self, dice: &mut Dice, board: &Board) -> Call {
         let in_use = board.slots_in_use();
+        if self.nodes > 0 && dice.one_in(40) {
+            return Call::Fence {
+                node: dice.below(self.nodes) as u8,
+            };
+        }
         if in_use == 0 || (in_use < self.most_in_use && dice.one_in(3)) {
             let mode = u8::from(dice.below(8) < self.writers_in_eight);
-            return Call::Open {
-                record: dice.below(self.records) as u16,
-                mode,
-            };
+            let record = dice.below(self.records) as u16;
+            return self.open(dice, board, record, mode);
         }
         if dice.one_in(12) {
             return Call::Show {
@@ -69,10 +74,24 @@ impl Plan {
             .filter(|&slot| phase_of(slot) != Phase::Free)
             .nth(skipped)
             .expect("fewer slots are skipped than are in use");
+        if self.nodes > 0 && board.is_fenced(usize::from(slot)) != dice.one_in(12) {
+            return Call::Care { slot };
+        }
         match phase_of(slot) {
             Phase::Held => Call::Release { slot },
             _ => Call::Step { slot },
         }
+    }
+
+    /// By one of the nodes, or mostly by another where that one is lost.
+    fn open(&self, dice: &mut Dice, board: &Board, record: u16, mode: u8) -> Call {
+        if self.nodes == 0 || dice.one_in(4) {
+            return Call::Open { record, mode };
+        }
+        let one = dice.below(self.nodes) as u8;
+        let lost = board.fenced[usize::from(one)] && !dice.one_in(8);
+        let node = if lost { dice.below(256) as u8 } else { one };
+        Call::OpenFor { record, mode, node }
     }
 
     fn damaged(&self, mut schedule: Vec<u8>, dice: &mut Dice) -> Vec<u8> {
@@ -94,31 +113,57 @@ impl Plan {
         }
         schedule
     }
-}
 
-/// A call drawn without looking: it may fit all the same.
-fn wrong_call(dice: &mut Dice) -> Call {
-    let any_byte = dice.below(SLOTS as u64) as u8;
-    let far_record = dice.below(1 << 16) as u16;
-    match dice.below(8) {
-        0 => Call::Open {
-            record: far_record,
-            mode: any_byte % 3,
-        },
-        1 => Call::Open {
-            record: 0,
-            mode: any_byte,
-        },
-        2 => Call::Show { record: far_record },
-        3 => Call::Step { slot: any_byte },
-        4 => Call::Release { slot: any_byte },
-        5 => Call::Step { slot: any_byte % 8 },
-        _ => Call::Release { slot: any_byte % 8 },
+    /// A call drawn without looking: it may fit all the same.
+    fn wrong_call(&self, dice: &mut Dice) -> Call {
+        let any_byte = dice.below(SLOTS as u64) as u8;
+        let far_record = dice.below(1 << 16) as u16;
+        match dice.below(if self.nodes == 0 { 8 } else { 12 }) {
+            0 => Call::Open {
+                record: far_record,
+                mode: any_byte % 3,
+            },
+            1 => Call::Open {
+                record: 0,
+                mode: any_byte,
+            },
+            2 => Call::Show { record: far_record },
+            3 => Call::Step { slot: any_byte },
+            4 => Call::Release { slot: any_byte },
+            5 => Call::Step { slot: any_byte % 8 },
+            6 | 7 => Call::Release { slot: any_byte % 8 },
+            8 => Call::OpenFor {
+                record: far_record,
+                mode: any_byte % 3,
+                node: any_byte % 4,
+            },
+            9 => Call::OpenFor {
+                record: 0,
+                mode: any_byte % 3,
+                node: any_byte,
+            },
+            10 => Call::Fence { node: any_byte },
+            _ => Call::Care { slot: any_byte % 8 },
+        }
     }
 }
 
-/// Forty schedules from 10 to 3,000 bytes, from one crowded record to many quiet ones.
+/// Forty schedules from 10 to 3,000 bytes, from one crowded record to many quiet ones; then some in which nodes are lost.
 pub fn plans() -> Vec<Plan> {
+    let lost = (0..6).map(|at| Plan {
+        seed: 2_000 + at,
+        length: 150 + 500 * at as usize,
+        records: [1, 2, 1, 3][at as usize % 4],
+        writers_in_eight: [4, 2, 6][at as usize % 3],
+        most_in_use: [6, 12, 40, 256][at as usize % 4],
+        wrong_calls_in_sixteen: at % 3,
+        nodes: [3, 2, 1, 8][at as usize % 4],
+        damage: match at {
+            4 => Damage::ChangedBytes(2),
+            5 => Damage::CutShort,
+            _ => Damage::None,
+        },
+    });
     (0..40)
         .map(|at| Plan {
             seed: 1_000 + at,
@@ -127,12 +172,14 @@ pub fn plans() -> Vec<Plan> {
             writers_in_eight: [4, 1, 2, 6, 8, 0, 3][at as usize % 7],
             most_in_use: [6, 12, 3, 40, 256][at as usize % 5],
             wrong_calls_in_sixteen: [1, 4, 0][at as usize % 3],
+            nodes: 0,
             damage: match at % 8 {
                 3 | 5 => Damage::ChangedBytes(1 + at / 10),
                 6 => Damage::CutShort,
                 _ => Damage::None,
             },
         })
+        .chain(lost)
         .collect()
 }
 
@@ -145,7 +192,7 @@ mod tests {
         for plan in plans() {
             let schedule = plan.schedule();
             assert_eq!(schedule, plan.schedule());
-            assert!(schedule.len() <= plan.length && schedule.len() + 5 > plan.length);
+            assert!(schedule.len() <= plan.length && schedule.len() + 6 > plan.length);
         }
     }
 }

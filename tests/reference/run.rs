@@ -1,7 +1,7 @@
 //! One run: records played on a board until the schedule, the allowance or the report ends.
 
 use crate::answer::{Answer, Outcome};
-use crate::board::Board;
+use crate::board::{Board, NO_NODE_NAMED};
 use crate::schedule::{Call, Next, Reader};
 
 pub const ENTRY_BYTES: usize = 12;
@@ -24,7 +24,7 @@ pub struct Entry {
 impl Entry {
     fn of(call: Call, answer: Answer) -> Self {
         let slot = match (call, answer) {
-            (Call::Step { slot } | Call::Release { slot }, _) => slot,
+            (Call::Step { slot } | Call::Release { slot } | Call::Care { slot }, _) => slot,
             (_, Ok(Outcome::Opened { slot })) => slot,
             _ => 0,
         };
@@ -42,6 +42,15 @@ impl Entry {
                 value: 0,
             },
         }
+    }
+
+    /// Whether this entry's call sent a verb: accepted steps, releases and cares do, but for a care that freed its slot unasked.
+    pub fn sent_a_verb(self, call: Call) -> bool {
+        let may_send = matches!(
+            call,
+            Call::Step { .. } | Call::Release { .. } | Call::Care { .. }
+        );
+        may_send && self.number == 0 && self.outcome != Outcome::FreedUnasked.number()
     }
 
     pub fn bytes(self) -> [u8; ENTRY_BYTES] {
@@ -87,23 +96,30 @@ pub fn run(board: &mut Board, reader: &mut Reader, allowance: u64, report: &mut 
             Next::BodyCutShort => break BODY_CUT_SHORT,
             Next::Record { call, length } => (call, length),
         };
-        let answer = make(board, call);
-        report[used..used + ENTRY_BYTES].copy_from_slice(&Entry::of(call, answer).bytes());
+        let entry = Entry::of(call, make(board, call));
+        report[used..used + ENTRY_BYTES].copy_from_slice(&entry.bytes());
         used += ENTRY_BYTES;
         reader.pass(length);
         result.records += 1;
-        result.verbs += u64::from(answer.is_ok() && call.sends_a_verb());
+        result.verbs += u64::from(entry.sent_a_verb(call));
     };
     result.bytes = (reader.place() - start) as u64;
     result
 }
 
-fn make(board: &mut Board, call: Call) -> Answer {
+pub fn make(board: &mut Board, call: Call) -> Answer {
     match call {
-        Call::Open { record, mode } => board.open(u64::from(record), u64::from(mode)),
+        Call::Open { record, mode } => {
+            board.open(u64::from(record), u64::from(mode), NO_NODE_NAMED)
+        }
         Call::Step { slot } => board.step(u64::from(slot)),
         Call::Release { slot } => board.release(u64::from(slot)),
         Call::Show { record } => board.show(u64::from(record)),
+        Call::OpenFor { record, mode, node } => {
+            board.open(u64::from(record), u64::from(mode), node)
+        }
+        Call::Fence { node } => board.fence(node),
+        Call::Care { slot } => board.care(u64::from(slot)),
     }
 }
 
@@ -202,5 +218,31 @@ mod tests {
         assert_eq!(report[..4], [4, 0, 5, 0]);
         assert_eq!(report[12..16], [4, 0, 6, 0]);
         assert_eq!(report[24..28], [2, 0, 0, 0]);
+    }
+
+    #[test]
+    fn a_care_is_a_verb_unless_it_frees_unasked() {
+        let opens = [5, 0, 0, 1, 3].repeat(3);
+        let calls = [2, 0, 2, 1, 6, 3, 7, 2, 7, 2, 7, 1, 7, 0, 3, 1];
+        let (result, _, report) = run_once(&[&opens[..], &calls].concat(), 0, 99, 999);
+        assert_eq!(
+            result,
+            RunResult {
+                ending: COMPLETE,
+                records: 11,
+                bytes: 31,
+                verbs: 4
+            }
+        );
+        let entries: Vec<&[u8]> = report.chunks_exact(ENTRY_BYTES).skip(5).take(6).collect();
+        #[rustfmt::skip]
+        assert_eq!(entries, [
+            [0, 13, 0, 0, 0, 0, 0, 0, 0, 0, 0, 0],
+            [0, 12, 2, 0, 0, 0, 0, 0, 0, 0, 0, 0],
+            [4, 0, 2, 0, 0, 0, 0, 0, 0, 0, 0, 0],
+            [0, 3, 1, 0, 1, 0, 0, 0, 0, 0, 0, 0],
+            [0, 6, 0, 0, 0, 0, 0, 0, 0, 0, 0, 0],
+            [15, 0, 1, 0, 0, 0, 0, 0, 0, 0, 0, 0],
+        ]);
     }
 }

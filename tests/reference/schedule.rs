@@ -1,4 +1,4 @@
-//! Schedules in bytes: the four kinds of record, a reader over them and their writing.
+//! Schedules in bytes: the seven kinds of record, a reader over them and their writing.
 
 #[derive(Clone, Copy, Debug, PartialEq, Eq)]
 pub enum Call {
@@ -6,6 +6,9 @@ pub enum Call {
     Step { slot: u8 },
     Release { slot: u8 },
     Show { record: u16 },
+    OpenFor { record: u16, mode: u8, node: u8 },
+    Fence { node: u8 },
+    Care { slot: u8 },
 }
 
 impl Call {
@@ -21,12 +24,13 @@ impl Call {
                 let [low, high] = record.to_le_bytes();
                 vec![4, low, high]
             }
+            Call::OpenFor { record, mode, node } => {
+                let [low, high] = record.to_le_bytes();
+                vec![5, low, high, mode, node]
+            }
+            Call::Fence { node } => vec![6, node],
+            Call::Care { slot } => vec![7, slot],
         }
-    }
-
-    /// Steps and releases send a verb when they are accepted.
-    pub fn sends_a_verb(self) -> bool {
-        matches!(self, Call::Step { .. } | Call::Release { .. })
     }
 }
 
@@ -73,7 +77,14 @@ impl<'s> Reader<'s> {
             (4, &[low, high, ..]) => Call::Show {
                 record: u16::from_le_bytes([low, high]),
             },
-            (1..=4, _) => return Next::BodyCutShort,
+            (5, &[low, high, mode, node, ..]) => Call::OpenFor {
+                record: u16::from_le_bytes([low, high]),
+                mode,
+                node,
+            },
+            (6, &[node, ..]) => Call::Fence { node },
+            (7, &[slot, ..]) => Call::Care { slot },
+            (1..=7, _) => return Next::BodyCutShort,
             _ => return Next::UnknownKind,
         };
         Next::Record {
@@ -102,6 +113,13 @@ mod tests {
             Call::Step { slot: 255 },
             Call::Release { slot: 0 },
             Call::Show { record: 0xff00 },
+            Call::OpenFor {
+                record: 0x1234,
+                mode: 7,
+                node: 0,
+            },
+            Call::Fence { node: 255 },
+            Call::Care { slot: 9 },
         ] {
             let bytes = call.bytes();
             let length = bytes.len();
@@ -113,10 +131,10 @@ mod tests {
     }
 
     #[test]
-    fn only_four_kinds_are_known() {
+    fn only_seven_kinds_are_known() {
         for kind in 0..=255u8 {
-            let known = (1..=4).contains(&kind);
-            let next = Reader::at(&[kind, 0, 0, 0], 0).look();
+            let known = (1..=7).contains(&kind);
+            let next = Reader::at(&[kind, 0, 0, 0, 0], 0).look();
             assert_eq!(next == Next::UnknownKind, !known);
             let alone = Reader::at(&[kind], 0).look();
             assert_eq!(

@@ -2,6 +2,7 @@
 //! The entries are set by hand. The reference must compute the same ones.
 
 use crate::player::{Player, MOST_INPUT_BYTES};
+use crate::repair::cares_after;
 use crate::run::{Entry, RunResult};
 use crate::schedule::Call;
 use crate::word::Counters;
@@ -23,6 +24,18 @@ pub fn release(slot: u8) -> Call {
 
 pub fn show(record: u16) -> Call {
     Call::Show { record }
+}
+
+pub fn open_for(node: u8, record: u16, mode: u8) -> Call {
+    Call::OpenFor { record, mode, node }
+}
+
+pub fn fence(node: u8) -> Call {
+    Call::Fence { node }
+}
+
+pub fn care(slot: u8) -> Call {
+    Call::Care { slot }
 }
 
 const fn accepted(outcome: u8, slot: u8, value: u64) -> Entry {
@@ -74,7 +87,15 @@ pub fn shown(n_x: u16, n_s: u16, m_x: u16, m_s: u16) -> Entry {
     accepted(10, 0, Counters::new(n_x, n_s, m_x, m_s).word())
 }
 
-/// A refused open or show has slot 0; a refused step or release has the slot that it names.
+pub fn freed_unasked(slot: u8) -> Entry {
+    accepted(12, slot, 0)
+}
+
+pub fn fenced() -> Entry {
+    accepted(13, 0, 0)
+}
+
+/// A refused open or show has slot 0; a refused step, release or care has the slot that it names.
 pub fn refused(number: u8, slot: u8) -> Entry {
     Entry {
         number,
@@ -105,12 +126,20 @@ pub fn asks(record: u16, mode: u8, told: Entry) -> [Line; 2] {
     ]
 }
 
-/// Calls in order, then bytes that are no whole record, then the ending of the whole.
+/// The same for a node.
+pub fn asks_for(node: u8, record: u16, mode: u8, told: Entry) -> [Line; 2] {
+    let [opened, stepped] = asks(record, mode, told);
+    [open_for(node, record, mode).gives(opened.entry), stepped]
+}
+
+/// Calls in order, then bytes that are no whole record, then the ending of the whole,
+/// and where it is repaired, what each care call prints: slot, phase before, outcome.
 #[derive(Clone, Default)]
 pub struct Script {
     pub lines: Vec<Line>,
     pub tail: Vec<u8>,
     pub ending: u8,
+    pub cares: Option<Vec<[u8; 3]>>,
 }
 
 impl Script {
@@ -125,6 +154,13 @@ impl Script {
         Script {
             tail: tail.to_vec(),
             ending,
+            ..self
+        }
+    }
+
+    pub fn repaired_by(self, cares: impl Into<Vec<[u8; 3]>>) -> Self {
+        Script {
+            cares: Some(cares.into()),
             ..self
         }
     }
@@ -148,7 +184,7 @@ impl Script {
         let verbs = self
             .lines
             .iter()
-            .filter(|line| line.entry.number == 0 && line.call.sends_a_verb());
+            .filter(|line| line.entry.sent_a_verb(line.call));
         RunResult {
             ending: self.ending,
             records: self.lines.len() as u64,
@@ -186,6 +222,17 @@ impl Script {
     /// Compares the written entries with those that the reference computes from a fresh board.
     pub fn compare(&self) -> Result<(), String> {
         assert!(self.schedule().len() <= MOST_INPUT_BYTES);
-        self.compare_on(&mut Player::on_a_fresh_board())
+        self.compare_on(&mut Player::on_a_fresh_board())?;
+        let Some(written) = &self.cares else {
+            return Ok(());
+        };
+        let computed: Vec<[u8; 3]> = cares_after(&self.schedule())
+            .iter()
+            .map(|care| care.numbers())
+            .collect();
+        if computed != *written {
+            return Err(format!("cares: computed {computed:?}, written {written:?}"));
+        }
+        Ok(())
     }
 }
