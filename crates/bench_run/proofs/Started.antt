@@ -9,7 +9,7 @@ use Rattle.board_rules.specs.declared.Played.{Played}
 use Rattle.board_nodes.specs.Site.{Site, siteOf, freshNodes, noFences, begunAt}
 use Rattle.board_nodes.specs.Leaves.{Leaves, lentTo}
 use Rattle.run_play.specs.Comes.{wholeOf}
-use Rattle.run_play.proofs.Playing.{same-site}
+use Rattle.board_nodes.proofs.Same.{same-site}
 use Rattle.bench_run.specs.Bench.{started}
 
 pub same-run :

@@ -1,15 +1,17 @@
--- What a call on a board by value leaves is the board and the answer, and the words: its contract, `Leaves`, allows one outcome.
+-- What a call on a board by value leaves is the board and the answer, and the words: its contract, `Leaves`, allows one outcome. And a site, like a
+-- board, is its parts.
 -- Assumes nothing.
-use Prim.Native.Nat.{ℕ}
+use Prim.Native.Nat.{ℕ, zero, suc, _<_}
 use mathlib.Core.Path.{_≡_, _∙_, ap}
 use mathlib.Core.Bool.{Bool}
-use mathlib.Core.List.{List}
+use mathlib.Core.List.{List, [], _∷_}
+use lib.ListN.{getD, set}
 use Rattle.common.proofs.OnlyOne.{only-one}
 use Rattle.agent_request.specs.declared.Request.{Request}
 use Rattle.board_slots.specs.declared.Board.{Board}
 use Rattle.board_rules.specs.declared.Answer.{Answer}
 use Rattle.board_rules.specs.declared.Played.{Played}
-use Rattle.board_nodes.specs.Site.{SiteDone}
+use Rattle.board_nodes.specs.Site.{Site, SiteDone}
 use Rattle.board_nodes.specs.Leaves.{Leaves}
 
 pub board-same : {a b : Board} → a .slots ≡ b .slots → a .nodes ≡ b .nodes → a .fenced ≡ b .fenced → a ≡ b
@@ -28,3 +30,21 @@ leaves-one p q = (
       (only-one (p .answer) (q .answer)),
   only-one (p .words) (q .words),
 )
+
+-- a site is its four parts
+pub same-site :
+    {l l′ : List Request} {n n′ : List ℕ} {f f′ : List Bool} {w w′ : List ℕ} →
+    l ≡ l′ →
+    n ≡ n′ →
+    f ≡ f′ →
+    w ≡ w′ →
+    _≡_ {A = Site} (record { slots = l; nodes = n; fenced = f; words = w }) (record { slots = l′; nodes = n′; fenced = f′; words = w′ })
+same-site p q r s = cc
+
+-- a byte, stored among others
+pub set-small : (l : List ℕ) (i x : ℕ) → x < 256 → ((j : ℕ) → getD l j 0 < 256) → (j : ℕ) → getD (set l i x) j 0 < 256
+set-small [] i x s h j = h j
+set-small (y ∷ l) zero x s h zero = s
+set-small (y ∷ l) zero x s h (suc j) = h (suc j)
+set-small (y ∷ l) (suc i) x s h zero = h zero
+set-small (y ∷ l) (suc i) x s h (suc j) = set-small l i x s (λ k. h (suc k)) j

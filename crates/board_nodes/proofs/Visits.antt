@@ -69,7 +69,12 @@ release-care q ws p =
     (ap (λ (x : Phase). careSendsIn x q) p) (ap (λ (x : Phase). careTakesIn x q (getD ws (q .«record») 0)) p)
 
 module _ (q : Request) (ws : List ℕ) (p : Phase) (h : phaseOf (q .phase) ≡ p) where
-  step-care : usedPhase p ≡ true → isNothing (stepSendsIn p q) ≡ false → careSendsIn p q ≡ stepSends q → careTakesIn p q (getD ws (q .«record») 0) ≡ stepTakes q (getD ws (q .«record») 0) → careVisit q ws ≡ sentVisit q (stepSends q) (stepTakes q) ws
+  step-care :
+      usedPhase p ≡ true →
+      isNothing (stepSendsIn p q) ≡ false →
+      careSendsIn p q ≡ stepSends q →
+      careTakesIn p q (getD ws (q .«record») 0) ≡ stepTakes q (getD ws (q .«record») 0) →
+      careVisit q ws ≡ sentVisit q (stepSends q) (stepTakes q) ws
   unfolding careSends careTakes stepSends
   step-care used one e f =
       sent-care q ws (stepSends q) (stepTakes q) (ap usedPhase h ∙ used) (ap (λ (x : Phase). isNothing (stepSendsIn x q)) h ∙ one)
@@ -203,7 +208,11 @@ named t o n g b c d v long l k g0 e same = by (leb SLOTS n) refl
         (λ z. ap (λ (j : ℕ). around t n j d) (sym k) ∙ around-here t o n v d l (omega arith) f))
 
 -- the care of a slot
-care-stored : (t : Site) (n : ℕ) → cared n (inner t) ≡ stored (inner t) (withinBoard n) (namedVisit n (slotAt (inner t) (withinBoard n)) (t .words) (careVisit (slotAt (inner t) (withinBoard n)) (t .words)))
+care-stored :
+    (t : Site) (n : ℕ) →
+    cared n (inner t) ≡
+    stored (inner t) (withinBoard n)
+    (namedVisit n (slotAt (inner t) (withinBoard n)) (t .words) (careVisit (slotAt (inner t) (withinBoard n)) (t .words)))
 unfolding cared namedVisit careVisit
 care-stored t n = by (leb SLOTS n) refl
   where
@@ -278,9 +287,11 @@ pub any-visit-is-played : AnyVisitIsPlayed
 unfolding aimOf steppedAt releasedAt caredAt shownAt fencedBy anyVisit stepped released shown showVisit
 any-visit-is-played (Base (Open r m)) t long = opens t (Base (Open r m)) r m 0 long (λ b. refl) refl
 any-visit-is-played (Base (Step n)) t long =
-    named t (Base (Step n)) n 15 (shutAt t n) (shutAt t (withinBoard n)) (stepped n (inner t)) _ long (λ b. refl) refl refl (visit-is-played (Step n) (inner t) long) (same-bit t n (λ b. b))
+    named t (Base (Step n)) n 15 (shutAt t n) (shutAt t (withinBoard n)) (stepped n (inner t)) _ long (λ b. refl) refl refl
+    (visit-is-played (Step n) (inner t) long) (same-bit t n (λ b. b))
 any-visit-is-played (Base (Release n)) t long =
-    named t (Base (Release n)) n 15 (shutAt t n) (shutAt t (withinBoard n)) (released n (inner t)) _ long (λ b. refl) refl refl (visit-is-played (Release n) (inner t) long) (same-bit t n (λ b. b))
+    named t (Base (Release n)) n 15 (shutAt t n) (shutAt t (withinBoard n)) (released n (inner t)) _ long (λ b. refl) refl refl
+    (visit-is-played (Release n) (inner t) long) (same-bit t n (λ b. b))
 any-visit-is-played (Base (Show r)) t long =
     sym (rw (set-getD (t .slots) 0 freeRequest, same-node t 0 0 (slotAt (inner t) 0) refl, set-getD (t .fenced) (nodeAt t 0) false) refl)
 any-visit-is-played (OpenAs r m k) t long = opens t (OpenAs r m k) r m k long (λ b. refl) refl

@@ -38,7 +38,8 @@ gone i verb takes s =
 tests :
     (y : Bool) (s : State) (d : Done) →
     (if not true then refused 4 s else if not y then refused 2 s else d) ≡
-    (if eqb (if not true then 4 else if false then 5 else if not y then 2 else 0) 0 then d else refused (if not true then 4 else if false then 5 else if not y then 2 else 0) s)
+    (if eqb (if not true then 4 else if false then 5 else if not y then 2 else 0) 0 then d else refused
+    (if not true then 4 else if false then 5 else if not y then 2 else 0) s)
 tests true s d = refl
 tests false s d = refl
 
@@ -51,7 +52,8 @@ same :
     cared i s ≡ (if leb SLOTS i then refused 1 s else sent i (slotAt s i) verb takes s)
 unfolding cared sent refusalOf
 same i s verb takes used one e f =
-    rw (e, f, used, one) (ap (λ (d : Done). if leb SLOTS i then refused 1 s else d) (tests (isRecord (slotAt s i .«record») (s .words)) s (gone i verb takes s)))
+    rw (e, f, used, one) (ap (λ (d : Done). if leb SLOTS i then refused 1 s else d) (tests (isRecord (slotAt s i .«record») (s .words)) s
+    (gone i verb takes s)))
 
 pub care-releases : CareReleases
 unfolding careSends careTakes released releaseSends
@@ -59,7 +61,14 @@ care-releases i s p =
     same i s (releaseSends (slotAt s i)) (releaseTakes (slotAt s i)) (ap usedPhase p) (ap (λ (x : Phase). isNothing (releaseSendsIn x (slotAt s i))) p)
     (ap (λ (x : Phase). careSendsIn x (slotAt s i)) p) (ap (λ (x : Phase). careTakesIn x (slotAt s i) (wordOf s i)) p)
 
-steps : (i : ℕ) (s : State) (p : Phase) → usedPhase p ≡ true → isNothing (stepSendsIn p (slotAt s i)) ≡ false → careSendsIn p (slotAt s i) ≡ stepSends (slotAt s i) → careTakesIn p (slotAt s i) (wordOf s i) ≡ stepTakes (slotAt s i) (wordOf s i) → phaseOf (slotAt s i .phase) ≡ p → cared i s ≡ stepped i s
+steps :
+    (i : ℕ) (s : State) (p : Phase) →
+    usedPhase p ≡ true →
+    isNothing (stepSendsIn p (slotAt s i)) ≡ false →
+    careSendsIn p (slotAt s i) ≡ stepSends (slotAt s i) →
+    careTakesIn p (slotAt s i) (wordOf s i) ≡ stepTakes (slotAt s i) (wordOf s i) →
+    phaseOf (slotAt s i .phase) ≡ p →
+    cared i s ≡ stepped i s
 unfolding careSends careTakes stepped stepSends
 steps i s p used one e f h =
     same i s (stepSends (slotAt s i)) (stepTakes (slotAt s i)) (ap usedPhase h ∙ used) (ap (λ (x : Phase). isNothing (stepSendsIn x (slotAt s i))) h ∙ one)
@@ -71,4 +80,5 @@ care-steps i s = (steps i s Waiting refl refl refl refl, steps i s Owing refl re
 pub care-frees : CareFrees
 unfolding cared careSends careTakes
 care-frees i s small p lent =
-    rw (lt-leb SLOTS i small, p, lent) (ap (λ (w : List ℕ). record { slots = set (s .slots) i freeRequest; words = w; answer = Told FreedUnasked }) (set-getD (s .words) (slotAt s i .«record») 0))
+    rw (lt-leb SLOTS i small, p, lent) (ap (λ (w : List ℕ). record { slots = set (s .slots) i freeRequest; words = w; answer = Told FreedUnasked })
+    (set-getD (s .words) (slotAt s i .«record») 0))

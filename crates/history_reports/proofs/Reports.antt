@@ -3,9 +3,7 @@
 -- Assumes nothing.
 use Prim.Native.Nat.{ℕ, zero, suc, _+_, _-_, _*_, _<_, _≤_}
 use mathlib.Core.Path.{_≡_, refl, ap, sym, _∙_}
-use mathlib.Core.Bool.{Bool}
 use mathlib.Core.List.{List, [], _∷_, _++_, append-assoc, map-append}
-use Rattle.agent_request.specs.declared.Request.{Request}
 use native.Mathlib.Omega.{arith}
 use lib.ListN.{length, take, drop, length-append}
 use lib.Seq.{take-at, drop-append-add}
@@ -18,6 +16,7 @@ use Rattle.board_rules.specs.declared.Answer.{Answer}
 use Rattle.board_rules.specs.declared.Answer.the-variants.{Refused, Begun, Opened, Told, Shown, Fenced}
 use Rattle.board_nodes.specs.Site.{Site, siteOf, playedAt}
 use Rattle.board_nodes.specs.Leaves.{lentTo}
+use Rattle.board_nodes.proofs.Same.{same-site}
 use Rattle.run_entry.specs.Entry.{ENTRY, entryOf}
 use Rattle.run_entry.specs.Promises.{outcomeIn, valueIn}
 use Rattle.run_entry.proofs.ReadsBack.{entry-reads-back}
@@ -105,11 +104,6 @@ record Goes (s : Site) (t : Site) (calls : List AnyCall) (entries : List ℕ) : 
   board : t ≡ afterAt s (asMoves calls)
   reported : entries ≡ entriesFrom s calls
 
-same-board :
-    {a b : List Request} {c d : List ℕ} {e f : List Bool} {v w : List ℕ} → a ≡ b → c ≡ d → e ≡ f → v ≡ w →
-    _≡_ {A = Site} (record { slots = a; nodes = c; fenced = e; words = v }) (record { slots = b; nodes = d; fenced = f; words = w })
-same-board p q r s = cc
-
 goes : (s : Site) (bytes : List ℕ) (at allowance : ℕ) (report : List ℕ) (r : Ran) (words′ report′ : List ℕ) → Comes (boardOf s) (s .words) bytes at allowance report r words′ report′ → Goes s (lentTo (r .board) words′) (callsFrom (r .records) bytes at) (take (ENTRY * r .records) report′)
 goes s bytes at allowance report r words′ report′ c =
     let w = runOf allowance (length report) bytes at s in
@@ -119,7 +113,7 @@ goes s bytes at allowance report r words′ report′ c =
     ap length (p .reported) ∙ entries-long s (callsFrom (w .records) bytes at) ∙ ap (λ (n : ℕ). ENTRY * n) (p .count ∙ sym (c .records)) in
     record {
       board =
-          same-board (c .slots-after) (c .nodes-after) (c .fenced-after) (c .words-after) ∙ p .board ∙ ap (allPlayed s) these ∙ as-moves s (callsFrom (r .records) bytes at);
+          same-site (c .slots-after) (c .nodes-after) (c .fenced-after) (c .words-after) ∙ p .board ∙ ap (allPlayed s) these ∙ as-moves s (callsFrom (r .records) bytes at);
       reported =
           ap (take (ENTRY * r .records)) (c .report-after) ∙
           take-at (w .entries) (drop (length (w .entries)) report) (ENTRY * r .records) long ∙ p .reported ∙ ap (entriesFrom s) these;

@@ -28,7 +28,8 @@ repairs-one :
     Repairs b words log s w l →
     (r ≡ s) × (v ≡ w) × (k ≡ l)
 repairs-one p q =
-    let board = board-same (only-one (p .slots-after) (q .slots-after)) (only-one (p .nodes-after) (q .nodes-after)) (only-one (p .fenced-after) (q .fenced-after)) in
+    let board = board-same (only-one (p .slots-after) (q .slots-after)) (only-one (p .nodes-after) (q .nodes-after)) (only-one (p .fenced-after)
+    (q .fenced-after)) in
     let made = repaired-same board (only-one (p .cares-made) (q .cares-made)) (only-one (p .is-done) (q .is-done)) in
     (made, only-one (p .words-after) (q .words-after), only-one (p .log-after) (q .log-after))
 

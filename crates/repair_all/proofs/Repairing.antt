@@ -12,6 +12,7 @@ use Rattle.agent_request.specs.declared.Request.{Request}
 use Rattle.board_slots.specs.declared.Board.{Board}
 use Rattle.board_nodes.specs.Site.{Site}
 use Rattle.board_nodes.specs.Leaves.{lentTo}
+use Rattle.board_nodes.proofs.Same.{same-site}
 use Rattle.repair_rules.specs.Repair.{Tended, untended, andThen, passOf, someBringOn, passesOf}
 use Rattle.repair_rules.specs.Log.{doneIn, loggedAt}
 use Rattle.repair_rules.proofs.Passes.{pass-short, passes-go, passes-end, done-go, done-end}
@@ -45,15 +46,6 @@ begins t log =
       is-done = rw same refl;
       logged = rw same refl;
     }
-
-same-site :
-    {l l′ : List Request} {n n′ : List ℕ} {f f′ : List Bool} {w w′ : List ℕ} →
-    l ≡ l′ →
-    n ≡ n′ →
-    f ≡ f′ →
-    w ≡ w′ →
-    _≡_ {A = Site} (record { slots = l; nodes = n; fenced = f; words = w }) (record { slots = l′; nodes = n′; fenced = f′; words = w′ })
-same-site p q r s = cc
 
 -- what a repair came to, put together: all its passes are done
 module _ (b : Board) (words₀ log₀ : List ℕ) (r : Repaired) (board : Board) (words log : List ℕ) (cares : ℕ) (done : Bool) where

@@ -28,7 +28,8 @@ passes-one :
     PassLeaves b words log at s w l →
     (r ≡ s) × (v ≡ w) × (k ≡ l)
 passes-one p q =
-    let board = board-same (only-one (p .slots-after) (q .slots-after)) (only-one (p .nodes-after) (q .nodes-after)) (only-one (p .fenced-after) (q .fenced-after)) in
+    let board = board-same (only-one (p .slots-after) (q .slots-after)) (only-one (p .nodes-after) (q .nodes-after)) (only-one (p .fenced-after)
+    (q .fenced-after)) in
     let made = passed-same board (only-one (p .cares-made) (q .cares-made)) (only-one (p .brings) (q .brings)) in
     (made, only-one (p .words-after) (q .words-after), only-one (p .log-after) (q .log-after))
 

@@ -20,6 +20,7 @@ use Rattle.board_rules.specs.declared.Seen.{Seen}
 use Rattle.board_nodes.specs.Site.{Site, siteOf, inner, nodeAt, keptNode, playedAt}
 use Rattle.board_nodes.specs.Answers.{saidOfAny}
 use Rattle.board_nodes.specs.Leaves.{lentTo}
+use Rattle.board_nodes.proofs.Same.{same-site, set-small}
 use Rattle.repair_rules.specs.Repair.{Cared, Tended, untended, andThen, isLost, toldOf, passFrom, passOf, bringsOn, someBringOn}
 use Rattle.repair_rules.specs.Log.{careBytes, fitsAt, careLogged, placeAfter, loggedAt}
 use Rattle.repair_rules.proofs.Cares.{careOf, leftAt, care-leaves, care-tells, pass-skips, pass-cares}
@@ -57,21 +58,6 @@ begins t log at long noded =
       brings = refl;
       logged = refl;
     }
-
-set-small : (l : List ℕ) (i x : ℕ) → x < 256 → ((j : ℕ) → getD l j 0 < 256) → (j : ℕ) → getD (set l i x) j 0 < 256
-set-small [] i x s h j = h j
-set-small (y ∷ l) zero x s h zero = s
-set-small (y ∷ l) zero x s h (suc j) = h (suc j)
-set-small (y ∷ l) (suc i) x s h zero = h zero
-set-small (y ∷ l) (suc i) x s h (suc j) = set-small l i x s (λ k. h (suc k)) j
-
-same-site :
-    {l l′ : List Request} {n n′ : List ℕ} {f : List Bool} {w w′ : List ℕ} →
-    l ≡ l′ →
-    n ≡ n′ →
-    w ≡ w′ →
-    _≡_ {A = Site} (record { slots = l; nodes = n; fenced = f; words = w }) (record { slots = l′; nodes = n′; fenced = f; words = w′ })
-same-site p q r = cc
 
 or-again : (x y z : Bool) → (x || (y || z)) ≡ ((x || y) || z)
 or-again true y z = refl
@@ -142,7 +128,7 @@ module _
       let got : r .request ≡ v .request = ap (λ (x : Seen). x .request) er in
       let stored : t′ ≡ leftAt t i v =
       same-site (ap (λ (x : Request). set (t .slots) i x) got)
-      (ap (λ (x : ℕ). set (t .nodes) i x) (en ∙ ap (λ (x : Request). keptNode 0 q x (nodeAt t i)) got)) ew in
+      (ap (λ (x : ℕ). set (t .nodes) i x) (en ∙ ap (λ (x : Request). keptNode 0 q x (nodeAt t i)) got)) refl ew in
       let site : siteOf (playedAt (Care i) t) ≡ t′ = care-leaves t i (p .long) small lost ∙ sym stored in
       let told : playedAt (Care i) t .answer ≡ r .answer =
       care-tells t i (p .long) small lost ∙ sym (ap (λ (x : Seen). x .answer) er) in

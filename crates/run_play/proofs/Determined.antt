@@ -33,8 +33,10 @@ comes-one :
     {b : Board} {words bytes : List ℕ} {at allowance : ℕ} {report : List ℕ} {r s : Ran} {v w k l : List ℕ} →
     Comes b words bytes at allowance report r v k → Comes b words bytes at allowance report s w l → (r ≡ s) × (v ≡ w) × (k ≡ l)
 comes-one p q =
-    let board = board-same (only-one (p .slots-after) (q .slots-after)) (only-one (p .nodes-after) (q .nodes-after)) (only-one (p .fenced-after) (q .fenced-after)) in
-    let ran = ran-same (only-one (p .ending) (q .ending)) (only-one (p .records) (q .records)) (only-one (p .taken) (q .taken)) (only-one (p .verbs) (q .verbs)) board in
+    let board = board-same (only-one (p .slots-after) (q .slots-after)) (only-one (p .nodes-after) (q .nodes-after)) (only-one (p .fenced-after)
+    (q .fenced-after)) in
+    let ran = ran-same (only-one (p .ending) (q .ending)) (only-one (p .records) (q .records)) (only-one (p .taken) (q .taken)) (only-one (p .verbs)
+    (q .verbs)) board in
     (ran, only-one (p .words-after) (q .words-after), only-one (p .report-after) (q .report-after))
 
 run-determined : Determined 3 run-kinds.ps run-kinds.r run-reads.Post

@@ -39,6 +39,7 @@ use Rattle.board_nodes.specs.Visit.{watchedNode, openingNode, fenceAfter, anyVi
 use Rattle.board_nodes.specs.Promises.{aimAt}
 use Rattle.board_nodes.specs.Leaves.{lentTo}
 use Rattle.board_nodes.proofs.Visits.{any-visit-is-played, any-open-words, kept-same}
+use Rattle.board_nodes.proofs.Same.{same-site, set-small}
 use Rattle.board_visit_waiting.specs.Waits.{stillAhead, steppedSlot}
 use Rattle.board_visit_waiting.proofs.Waits.{is-its-step, aims-there, waits-visit}
 use Rattle.schedule_bytes.specs.Schedule.{nextOf}
@@ -210,24 +211,6 @@ siteAfter c t i g v =
       fenced = set (t .fenced) g (fenceAfter c (fencedAt t g));
       words = v .words;
     }
-
--- a site is its four parts
-pub same-site :
-    {l l′ : List Request} {n n′ : List ℕ} {f f′ : List Bool} {w w′ : List ℕ} →
-    l ≡ l′ →
-    n ≡ n′ →
-    f ≡ f′ →
-    w ≡ w′ →
-    _≡_ {A = Site} (record { slots = l; nodes = n; fenced = f; words = w }) (record { slots = l′; nodes = n′; fenced = f′; words = w′ })
-same-site p q r s = cc
-
--- a node that is a byte, stored among others that are
-set-small : (l : List ℕ) (i x : ℕ) → x < 256 → ((j : ℕ) → getD l j 0 < 256) → (j : ℕ) → getD (set l i x) j 0 < 256
-set-small [] i x s h j = h j
-set-small (y ∷ l) zero x s h zero = s
-set-small (y ∷ l) zero x s h (suc j) = h (suc j)
-set-small (y ∷ l) (suc i) x s h zero = h zero
-set-small (y ∷ l) (suc i) x s h (suc j) = set-small l i x s (λ k. h (suc k)) j
 
 -- where a record is played: what is kept, the record that stands at the place, and that nothing stops the run before it
 pub record Turning

@@ -1,4 +1,5 @@
--- `board_by_value::placed` meets its contract: the slot gets what the visit makes of its request, its node goes with it, and the fence that the call looks at is set or stays.
+-- `board_by_value::placed` meets its contract: the slot gets what the visit makes of its request, its node goes with it, and the fence that the
+-- call looks at is set or stays.
 -- Assumes nothing.
 use denote.Ref.{now}
 use Rattle.board_nodes.proofs.Placed.{stored-leaves}
@@ -52,7 +53,26 @@ returns : tie.Need-returns
 returns c =
     let a = c .before .before .before .before .before .before .before .before .before .before .before .before .args in
     let v = c .before .before .before .before .before .any-visit in
-    stored-leaves (a .o) (a .b) (now (a .words)) _ (a .i) _ _ _ _ (c .before .before .before .before .before .before .before .before .watched-node .ensures) (v .ensures .0) (v .ensures .1) (c .before .kept-node .ensures) (c .fence-after .ensures)
+    stored-leaves (a .o) (a .b) (now (a .words)) _ (a .i) _ _ _ _
+    (c .before .before .before .before .before .before .before .before .watched-node .ensures) (v .ensures .0) (v .ensures .1)
+    (c .before .kept-node .ensures) (c .fence-after .ensures)
 
 pub placed-spec : {M : Type 1} → statement M
-placed-spec = tie.close (tie.spec mul-q element-copy-out-q element-copy-out-node watched-node-requires cast-g element-copy-out-shut any-visit-requires mul-request element-set-from-request kept-node-requires element-write-next fence-after-requires element-write-next-2 same-length returns)
+placed-spec =
+    tie.close
+    (tie.spec
+    mul-q
+    element-copy-out-q
+    element-copy-out-node
+    watched-node-requires
+    cast-g
+    element-copy-out-shut
+    any-visit-requires
+    mul-request
+    element-set-from-request
+    kept-node-requires
+    element-write-next
+    fence-after-requires
+    element-write-next-2
+    same-length
+    returns)

@@ -44,4 +44,19 @@ returns-4 : tie.Need-returns-4
 returns-4 c = search needs
 
 pub base-gate-spec : {M : Type 1} → statement M
-base-gate-spec = tie.close (tie.spec enum-known-c open-gate-requires enum-known-c-2 used-shut-requires number-if-requires enum-known-c-3 used-shut-requires-2 number-if-requires-2 enum-told returns returns-2 returns-3 returns-4)
+base-gate-spec =
+    tie.close
+    (tie.spec
+    enum-known-c
+    open-gate-requires
+    enum-known-c-2
+    used-shut-requires
+    number-if-requires
+    enum-known-c-3
+    used-shut-requires-2
+    number-if-requires-2
+    enum-told
+    returns
+    returns-2
+    returns-3
+    returns-4)

@@ -42,4 +42,18 @@ returns-4 : tie.Need-returns-4
 returns-4 c = simp (c .before .before .before .o3 .given .1, c .number-if .ensures, c .before .used-shut .ensures)
 
 pub gate-spec : {M : Type 1} → statement M
-gate-spec = tie.close (tie.spec enum-known-o base-gate-requires enum-known-o-2 open-gate-requires enum-told enum-known-o-3 used-shut-requires number-if-requires returns returns-2 returns-3 returns-4)
+gate-spec =
+    tie.close
+    (tie.spec
+    enum-known-o
+    base-gate-requires
+    enum-known-o-2
+    open-gate-requires
+    enum-told
+    enum-known-o-3
+    used-shut-requires
+    number-if-requires
+    returns
+    returns-2
+    returns-3
+    returns-4)

@@ -18,7 +18,15 @@ opening-node-requires : tie.Need-opening-node-requires
 opening-node-requires c κs = search needs
 
 returns-2 : tie.Need-returns-2
-returns-2 c = simp (c .opening-node .ensures, sym (c .before .before .in-use2 .ensures), c .before .if2 .left, sym (c .before .before .before .before .in-use .ensures), c .before .before .before .if1 .taken)
+returns-2 c =
+    simp (
+      c .opening-node .ensures,
+      sym (c .before .before .in-use2 .ensures),
+      c .before .if2 .left,
+      sym
+          (c .before .before .before .before .in-use .ensures),
+      c .before .before .before .if1 .taken,
+    )
 
 in-use-requires-3 : tie.Need-in-use-requires-3
 in-use-requires-3 c κs = search needs

@@ -20,7 +20,9 @@ in-use-requires : tie.Need-in-use-requires
 in-use-requires c κs = search needs
 
 returns-3 : tie.Need-returns-3
-returns-3 c = let a = c .before .before .before .args in c .in-use .ensures ∙ by-second (ltb (a .i) SLOTS) (inUse (a .q)) (a .shut) (c .before .before .if1 .left) (lt-ltb _ _ (c .before .if2 .left))
+returns-3 c =
+    let a = c .before .before .before .args in
+    c .in-use .ensures ∙ by-second (ltb (a .i) SLOTS) (inUse (a .q)) (a .shut) (c .before .before .if1 .left) (lt-ltb _ _ (c .before .if2 .left))
 
 pub used-shut-spec : {M : Type 1} → statement M
 used-shut-spec = tie.close (tie.spec returns returns-2 in-use-requires returns-3)

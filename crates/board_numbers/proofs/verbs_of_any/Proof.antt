@@ -23,7 +23,9 @@ unasked : (o : AnyCall) (a : Answer) (c : Call) (d : Said) → c ≡ reportedAs 
 unfolding verbsOfAny
 unasked o a c d e f g = rw (eq-eqb (saidOf (reportedAs o) a .outcome) 12 (outcome-is o a c d e f ∙ g))
 
-counted : (o : AnyCall) (a : Answer) (c : Call) (d : Said) (n : ℕ) → c ≡ reportedAs o → d ≡ saidOf c a → (d .outcome ≡ 12 → ⊥) → n ≡ verbsOf c a → n ≡ verbsOfAny o a
+counted :
+    (o : AnyCall) (a : Answer) (c : Call) (d : Said) (n : ℕ) → c ≡ reportedAs o → d ≡ saidOf c a → (d .outcome ≡ 12 → ⊥) → n ≡ verbsOf c a →
+    n ≡ verbsOfAny o a
 unfolding verbsOfAny
 counted o a c d n e f g h = rw (ne-eqb (saidOf (reportedAs o) a .outcome) 12 (λ z. g (sym (outcome-is o a c d e f) ∙ z))) (h ∙ ap (λ (x : Call). verbsOf x a) e)
 
@@ -37,10 +39,15 @@ verbs-of-requires : tie.Need-verbs-of-requires
 verbs-of-requires c κs = search needs
 
 returns : tie.Need-returns
-returns c = let a = c .before .before .before .before .before .args in counted (a .o) (a .a) _ _ _ (c .before .before .before .before .reported-as .ensures) (c .before .before .before .tell .ensures) (c .before .if1 .taken) (c .verbs-of .ensures)
+returns c =
+    let a = c .before .before .before .before .before .args in
+    counted (a .o) (a .a) _ _ _ (c .before .before .before .before .reported-as .ensures) (c .before .before .before .tell .ensures)
+    (c .before .if1 .taken) (c .verbs-of .ensures)
 
 returns-2 : tie.Need-returns-2
-returns-2 c = let a = c .before .before .before .before .args in unasked (a .o) (a .a) _ _ (c .before .before .before .reported-as .ensures) (c .before .before .tell .ensures) (c .if1 .left)
+returns-2 c =
+    let a = c .before .before .before .before .args in
+    unasked (a .o) (a .a) _ _ (c .before .before .before .reported-as .ensures) (c .before .before .tell .ensures) (c .if1 .left)
 
 pub verbs-of-any-spec : {M : Type 1} → statement M
 verbs-of-any-spec = tie.close (tie.spec reported-as-requires tell-requires verbs-of-requires returns returns-2)
