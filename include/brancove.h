@@ -1,8 +1,8 @@
 /*
  * The Brancove agent for C and C++: what a request for a record's lock sends next, and what it becomes with the result.
  *
- * The functions are in libagent_c.a (x86-64). Each is proved to do what the rules say, for every content of a request and every
- * 64-bit result. They send nothing, wait for nothing, allocate nothing and keep nothing between calls: the caller owns the request,
+ * The agent's functions are in libagent_c.a, those for schedules, at the end of this file, in libschedule_c.a (x86-64). Each is proved to do
+ * what the rules say, for every content of a request and every 64-bit result, or for all bytes, places and numbers. They send nothing, wait for nothing, allocate nothing and keep nothing between calls: the caller owns the request,
  * sends the verb to the record's lock word, and chooses when to try again.
  *
  * What requests do to each other is proved of a board that plays whole calls, one after the other: a call sends its verb and takes the
@@ -116,7 +116,11 @@ enum {
 enum {
     BRANCOVE_ACCEPTED = 0,
     BRANCOVE_NO_SUCH_MODE = 3, /* ask: the mode is neither 0 nor 1 */
-    BRANCOVE_WRONG_PHASE = 5   /* ask: the request is in use; step: it is free or held; release: it is not held; care: it is free */
+    BRANCOVE_WRONG_PHASE = 5,  /* ask: the request is in use; step: it is free or held; release: it is not held; care: it is free */
+    BRANCOVE_CUT_SHORT = 7,    /* schedule_read: the record runs past the end of the schedule */
+    BRANCOVE_UNKNOWN_KIND = 8, /* schedule_read, schedule_write: there is no such kind */
+    BRANCOVE_NO_ROOM = 12,     /* schedule_write: the record does not fit, or the place is past the buffer's end */
+    BRANCOVE_TOO_LARGE = 18    /* schedule_write: a number is too large for its field, or not 0 where the kind has no such field */
 };
 
 /* The outcome of an accepted answer. */
@@ -132,6 +136,18 @@ enum {
     BRANCOVE_TOLD_NOT_YET_CLEAR = 9, /* phase clearing */
     BRANCOVE_TOLD_PASSED = 11,       /* free: its turn is over */
     BRANCOVE_TOLD_FREED_UNASKED = 12 /* free: by a care, before it asked */
+};
+
+/* The kind of a record of a schedule, and the numbers that go with it, in their order: first, second, third. */
+enum {
+    BRANCOVE_KIND_NONE = 0,    /* no record stands there */
+    BRANCOVE_KIND_OPEN = 1,    /* record (2 bytes), mode (1) */
+    BRANCOVE_KIND_STEP = 2,    /* slot (1) */
+    BRANCOVE_KIND_RELEASE = 3, /* slot (1) */
+    BRANCOVE_KIND_SHOW = 4,    /* record (2) */
+    BRANCOVE_KIND_OPEN_AS = 5, /* record (2), mode (1), node (1) */
+    BRANCOVE_KIND_FENCE = 6,   /* node (1) */
+    BRANCOVE_KIND_CARE = 7     /* slot (1) */
 };
 
 /* A request: 16 bytes, aligned as uint64_t, all zero when free. It is updated where the caller stores it. */
@@ -167,6 +183,22 @@ typedef struct brancove_counters {
     uint16_t ms;
 } brancove_counters;
 
+/* What stands at a place of a schedule. */
+typedef struct brancove_standing {
+    uint8_t number;  /* 0, or 7 or 8 where the schedule cannot be read on */
+    uint8_t kind;    /* of the record that stands there; 0 where none does: with number 0 that is the end */
+    uint64_t first;  /* the record's numbers; 0 where the kind has no such field */
+    uint64_t second;
+    uint64_t third;
+    size_t next;     /* the place behind the record; where none stands, the place that was asked for */
+} brancove_standing;
+
+/* What became of a record that was to be written. */
+typedef struct brancove_placed {
+    uint8_t number; /* 0, 8, 12 or 18 */
+    size_t place;   /* the next free place; where the record was refused, the place that was given */
+} brancove_placed;
+
 /* Makes a free request ask for a record. Gives 0, or 3 or 5 and leaves the request. */
 uint8_t brancove_ask(brancove_request *q, uint16_t record, uint8_t mode);
 
@@ -191,11 +223,30 @@ brancove_told brancove_care_takes(brancove_request *q, uint64_t result);
 /* The counters of a word. */
 brancove_counters brancove_split(uint64_t word);
 
+/*
+ * Schedules: these two functions are in libschedule_c.a (x86-64), which needs no other archive. A schedule is bytes, one record behind the
+ * other: a byte of kind, then the kind's numbers, each low byte first. A tool that builds one writes record after record, from place 0 on,
+ * each at the place that the last one gave; a tool that takes one apart reads from place 0 on, until kind is 0. What was written is read as
+ * the same kind and numbers, and writing what was read gives the same bytes: both are proved, of records and of whole schedules.
+ *
+ * Read says what stands at a place, for any bytes, any length and any place. Where the kind is unknown, with 8, schedule[place] is that kind.
+ *
+ * Write puts a record at a place of the buffer and gives the next free place. It refuses with the first that applies: 8, there is no such
+ * kind, 0 and those above 255 among them; 18, a number is too large for its field, or not 0 where the kind has no such field; 12, the record
+ * does not fit behind the place, as at the buffer's end and past it. A refusal leaves buffer and place. Only the record's bytes are written.
+ * A record of a call that the board would refuse is written all the same: mode 7, say.
+ *
+ * The schedule, or the buffer, is `length` bytes from the pointer on. The pointer is not tested, and should not be NULL with length 0 either.
+ */
+brancove_standing brancove_schedule_read(const uint8_t *schedule, size_t length, size_t place);
+brancove_placed brancove_schedule_write(uint8_t *buffer, size_t length, size_t place, uint64_t kind, uint64_t first, uint64_t second,
+                                        uint64_t third);
+
 #ifdef __cplusplus
 }
 #endif
 
-/* The layout that the archive was compiled for. */
+/* The layout that the archives were compiled for. */
 #if defined(__cplusplus) && __cplusplus >= 201103L
 #define BRANCOVE_LAYOUT(name, holds) static_assert(holds, "brancove: " #name)
 #elif defined(__STDC_VERSION__) && __STDC_VERSION__ >= 201112L
@@ -227,6 +278,18 @@ BRANCOVE_LAYOUT(counters_nx, offsetof(brancove_counters, nx) == 0);
 BRANCOVE_LAYOUT(counters_ns, offsetof(brancove_counters, ns) == 2);
 BRANCOVE_LAYOUT(counters_mx, offsetof(brancove_counters, mx) == 4);
 BRANCOVE_LAYOUT(counters_ms, offsetof(brancove_counters, ms) == 6);
+
+BRANCOVE_LAYOUT(standing_size, sizeof(brancove_standing) == 40);
+BRANCOVE_LAYOUT(standing_number, offsetof(brancove_standing, number) == 0);
+BRANCOVE_LAYOUT(standing_kind, offsetof(brancove_standing, kind) == 1);
+BRANCOVE_LAYOUT(standing_first, offsetof(brancove_standing, first) == 8);
+BRANCOVE_LAYOUT(standing_second, offsetof(brancove_standing, second) == 16);
+BRANCOVE_LAYOUT(standing_third, offsetof(brancove_standing, third) == 24);
+BRANCOVE_LAYOUT(standing_next, offsetof(brancove_standing, next) == 32);
+
+BRANCOVE_LAYOUT(placed_size, sizeof(brancove_placed) == 16);
+BRANCOVE_LAYOUT(placed_number, offsetof(brancove_placed, number) == 0);
+BRANCOVE_LAYOUT(placed_place, offsetof(brancove_placed, place) == 8);
 
 #undef BRANCOVE_LAYOUT
 

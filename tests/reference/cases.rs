@@ -3,7 +3,7 @@
 use crate::lost;
 use crate::player::MOST_INPUT_BYTES;
 use crate::random::{plans, Damage};
-use crate::run::{BODY_CUT_SHORT, UNKNOWN_KIND};
+use crate::schedule::{BODY_CUT_SHORT, UNKNOWN_KIND};
 use crate::script::{
     asks, granted, open, opened, refused, release, released, show, shown, step, waiting, Line,
     Script, READER, WRITER,

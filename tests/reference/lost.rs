@@ -3,7 +3,7 @@
 use crate::answer::Refusal;
 use crate::cases::Case;
 use crate::player::{Player, MOST_INPUT_BYTES, WORDS};
-use crate::run::UNKNOWN_KIND;
+use crate::schedule::UNKNOWN_KIND;
 use crate::script::{
     asks, asks_for, care, fence, fenced, freed_unasked, granted, open, open_for, opened, refused,
     release, released, show, shown, step, waiting, Line, Script, READER, WRITER,

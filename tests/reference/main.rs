@@ -19,6 +19,8 @@ mod run;
 mod schedule;
 mod script;
 mod word;
+#[cfg(test)]
+mod writer;
 
 use std::io::{self, Read, Write};
 use std::path::Path;

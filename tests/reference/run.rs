@@ -2,13 +2,11 @@
 
 use crate::answer::{Answer, Outcome};
 use crate::board::{Board, NO_NODE_NAMED};
-use crate::schedule::{Call, Next, Reader};
+use crate::schedule::{Call, Next, Reader, BODY_CUT_SHORT, UNKNOWN_KIND};
 
 pub const ENTRY_BYTES: usize = 12;
 
 pub const COMPLETE: u8 = 0;
-pub const BODY_CUT_SHORT: u8 = 7;
-pub const UNKNOWN_KIND: u8 = 8;
 pub const ALLOWANCE_SPENT: u8 = 11;
 pub const REPORT_FULL: u8 = 12;
 

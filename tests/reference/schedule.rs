@@ -1,5 +1,8 @@
 //! Schedules in bytes: the seven kinds of record, a reader over them and their writing.
 
+pub const BODY_CUT_SHORT: u8 = 7;
+pub const UNKNOWN_KIND: u8 = 8;
+
 #[derive(Clone, Copy, Debug, PartialEq, Eq)]
 pub enum Call {
     Open { record: u16, mode: u8 },

@@ -13,12 +13,13 @@ use Rattle.board_nodes.specs.Site.{openedBy, steppedAt, releasedAt, shownAt, fe
 use Rattle.run_entry.specs.Entry.{entryOf}
 use Rattle.board_rules.specs.Answers.{verbsOf}
 use Rattle.board_nodes.specs.Answers.{verbsOfAny}
-use Rattle.schedule_bytes.specs.Schedule.{bodyOf, callAt, nextOf}
+use Rattle.schedule_kinds.specs.Kinds.{widthsOf, bodyOf, callOf}
+use Rattle.schedule_bytes.specs.Schedule.{numberAt, numbersAt, callAt, nextOf}
 use Rattle.run_rules.specs.Run.{runOf}
 use Rattle.run_rules.specs.Examples.{RowsHold}
 
 pub rows-hold : RowsHold
-unfolding runOf nextOf callAt bodyOf openedBy steppedAt releasedAt shownAt fencedBy caredAt
+unfolding runOf nextOf callAt callOf numbersAt numberAt bodyOf widthsOf openedBy steppedAt releasedAt shownAt fencedBy caredAt
     opened sent stepped released shown shownOf cared refusalOf lowestFree
     stepSends releaseSends careSends stepTakes releaseTakes careTakes turnOf clearingWordOf asked entryOf verbsOf verbsOfAny
 rows-hold = refl

@@ -9,7 +9,8 @@ use lib.ListN.{length}
 use mathlib.Core.List.{List}
 use Rattle.board_call.specs.declared.AnyCall.{AnyCall}
 use Rattle.common.specs.Choice.{if_then_else_}
-use Rattle.schedule_bytes.specs.Schedule.{bodyOf, byteAt, callAt, nextOf}
+use Rattle.schedule_kinds.specs.Kinds.{bodyOf}
+use Rattle.schedule_bytes.specs.Schedule.{byteAt, callAt, nextOf}
 use Rattle.schedule_bytes.specs.Promises.{KindFixesLength}
 use Rattle.schedule_bytes.specs.declared.Next.the-variants.{Record, End, Unknown, Cut}
 

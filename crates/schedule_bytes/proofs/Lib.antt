@@ -1,4 +1,5 @@
 pub mod Bodies
+pub mod Stands
+pub mod Fields
 pub mod Determined
 pub mod Examples
-pub mod Stands

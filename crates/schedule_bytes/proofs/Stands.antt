@@ -1,16 +1,18 @@
 -- Why each thing stands exactly where the rule says: the definition makes three tests, and each answer is that of one of them.
 -- Assumes nothing.
-use Prim.Native.Nat.{ℕ, zero, suc, _+_, _-_, _<_, _≤_}
+use Prim.Native.Nat.{ℕ, _+_, _-_, _<_, _≤_}
 use mathlib.Core.Path.{_≡_, refl}
 use mathlib.Core.Bool.{Bool, true, false}
-use mathlib.Core.Logic.{_⊎_, inl, inr, ⊎-elim}
+use mathlib.Core.Logic.{_⊎_, ⊎-elim}
 use native.Mathlib.Omega.{arith}
 use borrow.Author.Tests.{leb-true, leb-false, ltb-true, le-leb, lt-leb, lt-ltb, eqb-true, eqb-false, ne-eqb}
 use lib.Dec.{eqb, ltb, leb}
 use lib.ListN.{length}
 use Rattle.common.specs.Choice.{if_then_else_}
 use Rattle.board_call.specs.declared.AnyCall.{AnyCall}
-use Rattle.schedule_bytes.specs.Schedule.{bodyOf, byteAt, callAt, nextOf}
+use Rattle.schedule_kinds.specs.Kinds.{bodyOf}
+use Rattle.schedule_kinds.proofs.EachKind.{none-or-known, no-body, some-body}
+use Rattle.schedule_bytes.specs.Schedule.{byteAt, callAt, nextOf}
 use Rattle.schedule_bytes.specs.Promises.{EndStandsExactly, UnknownStandsExactly, CutStandsExactly}
 use Rattle.schedule_bytes.specs.declared.Next.{Next}
 use Rattle.schedule_bytes.specs.declared.Next.the-variants.{Record, End, Unknown, Cut}
@@ -40,33 +42,6 @@ module _ (c : AnyCall) (n : ℕ) where
   is-cut false true z e = differ cc
   is-cut false false true e = (refl, refl, refl)
   is-cut false false false e = differ cc
-
--- past the last kind each test of `bodyOf` fails
-beyond : (k : ℕ) → 7 < k → bodyOf k ≡ 0
-unfolding bodyOf
-beyond k h =
-    let ne : (n : ℕ) → n ≤ 7 → eqb k n ≡ false = λ n l. ne-eqb k n (λ e. omega arith) in
-    rw (ne 1 (omega arith), ne 2 (omega arith), ne 3 (omega arith), ne 4 (omega arith), ne 5 (omega arith), ne 6 (omega arith), ne 7 (omega arith)) refl
-
--- a kind is none of 1 to 7 and has no body, or is one of them and has one
-none-or-known : (k : ℕ) → (((k ≡ 0) ⊎ (7 < k)) × (bodyOf k ≡ 0)) ⊎ ((0 < k) × (k ≤ 7) × (0 < bodyOf k))
-unfolding bodyOf
-none-or-known zero = inl (inl refl, refl)
-none-or-known (suc zero) = inr (omega arith, omega arith, omega arith)
-none-or-known (suc (suc zero)) = inr (omega arith, omega arith, omega arith)
-none-or-known (suc (suc (suc zero))) = inr (omega arith, omega arith, omega arith)
-none-or-known (suc (suc (suc (suc zero)))) = inr (omega arith, omega arith, omega arith)
-none-or-known (suc (suc (suc (suc (suc zero))))) = inr (omega arith, omega arith, omega arith)
-none-or-known (suc (suc (suc (suc (suc (suc zero)))))) = inr (omega arith, omega arith, omega arith)
-none-or-known (suc (suc (suc (suc (suc (suc (suc zero))))))) = inr (omega arith, omega arith, omega arith)
-none-or-known (suc (suc (suc (suc (suc (suc (suc (suc m)))))))) =
-    inl (inr (omega arith), beyond (suc (suc (suc (suc (suc (suc (suc (suc m)))))))) (omega arith))
-
-no-body : (k : ℕ) → (k ≡ 0) ⊎ (7 < k) → bodyOf k ≡ 0
-no-body k h = ⊎-elim (λ n. n .1) (λ b. absurd (⊎-elim (λ e. omega arith) (λ l. omega arith) h)) (none-or-known k)
-
-some-body : (k : ℕ) → 0 < k → k ≤ 7 → 0 < bodyOf k
-some-body k p q = ⊎-elim (λ n. absurd (⊎-elim (λ e. omega arith) (λ l. omega arith) (n .0))) (λ b. b .2) (none-or-known k)
 
 pub end-stands-exactly : EndStandsExactly
 unfolding nextOf

@@ -5,7 +5,8 @@ use mathlib.Core.Logic.{_↔_, _⊎_}
 use mathlib.Core.List.{List}
 use lib.ListN.{length}
 use Rattle.board_call.specs.declared.AnyCall.{AnyCall}
-use Rattle.schedule_bytes.specs.Schedule.{bodyOf, byteAt, nextOf}
+use Rattle.schedule_kinds.specs.Kinds.{bodyOf}
+use Rattle.schedule_bytes.specs.Schedule.{byteAt, nextOf}
 use Rattle.schedule_bytes.specs.declared.Next.the-variants.{Record, End, Unknown, Cut}
 
 -- Records of one kind have one length: the kind byte and the body that the kind fixes.

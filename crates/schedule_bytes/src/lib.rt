@@ -3,7 +3,8 @@
 ghost use mathlib.Core.Path.{_≡_};
 ghost use Prim.Native.Nat.{_+_, _*_, _≤_};
 ghost use lib.ListN.{length};
-ghost use Rattle.schedule_bytes.specs.Schedule.{bodyOf, pairAt, callAt, nextOf};
+ghost use Rattle.schedule_kinds.specs.Kinds.{bodyOf};
+ghost use Rattle.schedule_bytes.specs.Schedule.{byteAt, callAt, nextOf};
 use board_call::AnyCall;
 use board_call::Call;
 
@@ -47,7 +48,7 @@ fn pair(low: u8, high: u8) -> u64
 // The two bytes at a place.
 fn pair_at(s: &[u8], i: usize) -> u64
     requires { ⌜ i + 2 ≤ length (now s) ⌝ }
-    ensures { λ r. ⌜ r ≡ pairAt (now (s .entry)) i ⌝ }
+    ensures { λ r. ⌜ r ≡ byteAt (now (s .entry)) i + byteAt (now (s .entry)) (i + 1) * 256 ⌝ }
 {
     pair(s[i], s[i + 1])
 }

@@ -5,7 +5,8 @@ use mathlib.Core.List.{[]}
 use denote.Ref.{now}
 use Rattle.board_call.specs.declared.AnyCall.{AnyCall}
 use Rattle.schedule_bytes.specs.declared.Next.the-variants.{Record}
-use Rattle.schedule_bytes.specs.Schedule.{bodyOf, byteAt, callsFrom}
+use Rattle.schedule_kinds.specs.Kinds.{bodyOf}
+use Rattle.schedule_bytes.specs.Schedule.{byteAt, callsFrom}
 use Rattle.schedule_reader.specs.declared.Reader.{Reader}
 use Rattle.schedule_reader.specs.Reading.{atPlace, movedOn, callIn, readings}
 

@@ -1,0 +1,6 @@
+pub mod Numbers
+pub mod Records
+pub mod Untouched
+pub mod RoundTrips
+pub mod Schedules
+pub mod Examples

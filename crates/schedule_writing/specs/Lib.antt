@@ -1,0 +1,4 @@
+pub mod Writing
+pub mod Boundary
+pub mod Promises
+pub mod Examples
