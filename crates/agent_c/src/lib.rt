@@ -1,6 +1,8 @@
 // The agent for a caller in C. An exported function only loads the request, calls a function by value, stores and returns; the cases
 // stand in the functions by value. It relies on the contracts of `agent_sends`, `agent_takes`, `agent_care`, `agent_numbers`,
 // `agent_request` and `word_layout` alone.
+#![tactic(auto)]
+
 ghost use Rattle.std.specs.Prelude.{◌≡◌};
 ghost use Rattle.word_layout.specs.Word.{split_of};
 ghost use Rattle.agent_rules.specs.Life.{step_sends, release_sends, step_takes, release_takes};

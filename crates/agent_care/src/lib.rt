@@ -1,5 +1,7 @@
 // A caretaker's turn on one request of a lost node: what it sends, and what the request becomes. It relies on the contracts of
 // `agent_request`, `agent_sends` and `agent_takes` alone. Its own is only which of them a phase takes, and that an Asking request is freed.
+#![tactic(auto)]
+
 ghost use Rattle.std.specs.Prelude.{◌≡◌};
 ghost use Rattle.agent_rules.specs.Life.{freed};
 ghost use Rattle.agent_rules.specs.Care.{care_sends, care_takes};

@@ -1,5 +1,7 @@
 // The ceiling of tickets: whether the record is full, and the clearing word of the last ticket of a kind.
 // It relies on the contracts of `word_counter` and `word_layout`, and on how `agent_request` keeps a clearing word, alone.
+#![tactic(auto)]
+
 ghost use Rattle.std.specs.Prelude.{◌≡◌};
 ghost use Rattle.agent_ceiling.specs.Ceiling.{full_at, rest_of, clearing_word_of};
 

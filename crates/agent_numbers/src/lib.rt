@@ -1,4 +1,6 @@
 // The answers of the agent in numbers. It relies on types alone.
+#![tactic(auto)]
+
 ghost use Rattle.std.specs.Prelude.{◌≡◌};
 ghost use Rattle.agent_rules.specs.Answers.{accepted_with, refused_with, numbers_of};
 

@@ -1,5 +1,7 @@
 // A request as it is kept: plain numbers that a C caller can store, and how they are read.
 // It uses the types of `word_counter` and `agent_ticket` and calls none of their functions. It knows no verb and no lock word.
+#![tactic(auto)]
+
 ghost use Rattle.std.specs.Prelude.{◌≡◌};
 ghost use Rattle.agent_request.specs.Request.{phase_number, phase_of, mode_of, in_use, free_request, opened_request, in_phase};
 
@@ -11,7 +13,7 @@ pub const NONE: u64 = 0;
 
 // A request: plain numbers that C can hold, 16 bytes, all 0 when free. A clearing word of 0 is none.
 #[repr(C)]
-#[derive(Drop)]
+#[derive(Clone, Copy)]
 pub struct Request {
     pub record: u16,
     pub mode: u8,
@@ -20,7 +22,7 @@ pub struct Request {
     pub clearing: u64,
 }
 
-#[derive(Drop)]
+#[derive(Clone, Copy)]
 pub enum Phase {
     Free,
     Asking,

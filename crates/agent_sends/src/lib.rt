@@ -1,4 +1,6 @@
 // What one request sends next. It relies on the contracts of `word_layout` and `agent_request` alone.
+#![tactic(auto)]
+
 ghost use Rattle.std.specs.Prelude.{◌≡◌};
 ghost use Rattle.agent_rules.specs.Life.{ticket_counter, release_counter, step_sends, release_sends};
 

@@ -1,6 +1,8 @@
 // What one request becomes when the result of its verb arrives, for any u64 as that result. It relies on the contracts of `word_layout`,
 // `agent_ticket`, `agent_ceiling` and `agent_request` alone. It sees a lock word only as a verb's result, and never looks at the record
 // number.
+#![tactic(auto)]
+
 ghost use Rattle.std.specs.Prelude.{◌≡◌};
 ghost use Rattle.agent_rules.specs.Life.{becomes, freed, waited, ticketed, asked, swapped, let_go, step_takes, release_takes};
 

@@ -1,5 +1,7 @@
 // A ticket and what the word says of it: the turn test.
 // It compares by the methods of `word_counter` alone, so that an exclusive number meets exclusive counters and a shared one shared counters.
+#![tactic(auto)]
+
 ghost use Rattle.std.specs.Prelude.{◌≡◌};
 ghost use Rattle.agent_ticket.specs.Turn.{is_writer, ahead_of, passed_at, granted_at, turn_of};
 
@@ -8,17 +10,17 @@ use word_layout::Counters;
 
 // (x, s): the next ticket numbers of both kinds as they were when the ticket was drawn.
 #[repr(C)]
-#[derive(Drop)]
+#[derive(Clone, Copy)]
 pub struct Ticket(pub Exclusive, pub Shared);
 
-#[derive(Drop)]
+#[derive(Clone, Copy)]
 pub enum Mode {
     Reader,
     Writer,
 }
 
 // What the turn test finds.
-#[derive(Drop)]
+#[derive(Clone, Copy)]
 pub enum Turn {
     Passed,
     Granted,
@@ -56,6 +58,7 @@ fn ahead(mode: Mode, ticket: Ticket, v: Counters) -> u64
 }
 
 // passed, granted, or waiting with the number ahead.
+#[tactic(auto, unfolding(crate::specs::Turn::turn_of))]
 pub fn turn_of(mode: Mode, ticket: Ticket, v: Counters) -> Turn
     ensures { result ≡ turn_of mode ticket v }
 {

@@ -1,5 +1,7 @@
 // The benchmark's way into a run, for a caller in C: a fresh board, begun over the lent words, plays the whole schedule. It relies on the
 // contracts of `board_begin` and `run_play` alone.
+#![tactic(auto)]
+
 ghost use Rattle.bench_run.specs.Bench.{Benched};
 
 // Begins a fresh board over the words, plays the schedule from its first byte, and returns how many verbs were sent.

@@ -1,4 +1,6 @@
 // A fresh board, and a board begun: all lent words 0, all slots free and of node 0, no node fenced. It relies on the contract of `agent_request` alone.
+#![tactic(auto)]
+
 ghost use Rattle.std.specs.Prelude.{◌≡◌, length, replicate};
 ghost use Rattle.board_slots.specs.Slots.{fresh_slots};
 ghost use Rattle.board_nodes.specs.Site.{fresh_nodes, no_fences, begun_at};

@@ -1,5 +1,7 @@
 // The board by value: a table of 256 request slots with the node of each, the fences, and lent lock words. It plays agents and memory in any order.
 // It relies on the contracts of `board_visit_aim`, `board_visit_any`, `board_gate` and `board_map_kept` alone.
+#![tactic(auto)]
+
 ghost use Rattle.std.specs.Prelude.{◌<◌};
 ghost use Rattle.board_call.specs.declared.Call.TheVariants.{Open, Step, Release};
 ghost use Rattle.board_call.specs.declared.AnyCall.TheVariants.{Base, OpenAs, Fence, Care};

@@ -1,6 +1,8 @@
 // A call on the board, with every number as wide as a caller can make it, but for a node, which is one byte. What a call does stands in `board_rules`
 // and `board_nodes`, how it is written in bytes in `schedule_bytes`.
-#[derive(Drop)]
+#![tactic(auto)]
+
+#[derive(Clone, Copy)]
 pub enum Call {
     // record, mode
     Open(u64, u64),
@@ -13,7 +15,7 @@ pub enum Call {
 }
 
 // Any call: one of the four above, made by node 0 where it opens, or one for lost nodes.
-#[derive(Drop)]
+#[derive(Clone, Copy)]
 pub enum AnyCall {
     Base(Call),
     // record, mode, node

@@ -1,5 +1,7 @@
 // What is particular to nodes in a call: as which call of the base it is reported, the node whose fence it looks at, the number with which that fence
 // refuses it, and what node and fence are afterwards. It relies on the contracts of `agent_request` and `board_records` alone.
+#![tactic(auto)]
+
 ghost use Rattle.std.specs.Prelude.{◌≡◌};
 ghost use Rattle.common.specs.Choice.{if◌then◌else◌};
 ghost use Rattle.board_call.specs.declared.AnyCall.TheVariants.{Base};

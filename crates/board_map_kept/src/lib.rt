@@ -1,4 +1,6 @@
 // A map of four u64 over the table of slots: made of a table, and marked where a slot changes. It relies on the contract of `agent_request` alone.
+#![tactic(auto)]
+
 ghost use Rattle.std.specs.Prelude.{◌≡◌, ◌%◌, ◌^◌, ◌≤◌, take, drop};
 ghost use Rattle.board_slots.specs.Map.{bit_of, bits_of, map_of, plus, marked_of};
 

@@ -1,4 +1,6 @@
 // What the map tells: trailing zeros find the lowest free slot, counts of ones give the slots in use. It relies on types alone.
+#![tactic(auto)]
+
 ghost use Rattle.std.specs.Prelude.{◌≡◌, ◌-◌, ◌≤◌};
 ghost use Rattle.board_slots.specs.Map.{lowest_zero, ones_of, ALL};
 ghost use Rattle.std.specs.Int.Count.{count_trailing_zeros, ones};

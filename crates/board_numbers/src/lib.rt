@@ -1,4 +1,6 @@
 // The answers of the board in numbers, and whether a verb was sent. It relies on the contracts of `agent_numbers` and `board_gate` alone.
+#![tactic(auto)]
+
 ghost use Rattle.std.specs.Prelude.{◌≡◌};
 ghost use Rattle.board_rules.specs.Answers.{named_slot, said_of, verbs_of};
 ghost use Rattle.board_nodes.specs.Answers.{verbs_of_any};

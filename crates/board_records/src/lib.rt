@@ -1,4 +1,6 @@
 // Which numbers are records, and a request that stays as it is, refused. It relies on types alone.
+#![tactic(auto)]
+
 ghost use Rattle.std.specs.Prelude.{◌≡◌};
 ghost use Rattle.board_rules.specs.declared.Answer.TheVariants.{Refused};
 ghost use Rattle.board_rules.specs.Records.{is_record_of};

@@ -1,9 +1,11 @@
 // The table of 256 request slots and the map over it, in definitions and laws alone. `board_begin`,
 // `board_map_kept` and `board_map_read` compute them.
+#![tactic(auto)]
+
 use agent_request::Request;
 
 // What a board keeps: its slots, for each of them its node (0 for one that was freed), and for each node whether it is fenced.
-#[derive(Drop)]
+#[derive(Clone, Copy)]
 pub struct Board {
     pub slots: [Request; 256],
     pub nodes: [u8; 256],
@@ -11,7 +13,7 @@ pub struct Board {
 }
 
 // A one for each slot in use.
-#[derive(Drop)]
+#[derive(Clone, Copy)]
 pub struct Map {
     pub parts: [u64; 4],
 }

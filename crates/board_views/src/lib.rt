@@ -1,5 +1,7 @@
 // What can be seen of a board without a change: the word of a record, and how many slots are in use. It relies on the contracts of
 // `board_map_kept` and `board_map_read` alone.
+#![tactic(auto)]
+
 ghost use Rattle.std.specs.Prelude.{◌≡◌};
 ghost use Rattle.board_slots.specs.Slots.{used_slots};
 ghost use Rattle.board_rules.specs.Board.{shown_of};

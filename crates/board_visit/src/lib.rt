@@ -1,5 +1,7 @@
 // One call as a visit of one slot: what becomes of its request and of the lent words. No table of slots is handled here, so that whoever holds one
 // copies none of it for a call. It relies on the contracts of `board_visit_open`, `board_visit_verb` and `board_records` alone.
+#![tactic(auto)]
+
 ghost use Rattle.std.specs.Prelude.{◌≡◌};
 ghost use Rattle.board_rules.specs.Sent.{handed};
 ghost use Rattle.board_rules.specs.Visit.{visit_of, show_visit};

@@ -1,4 +1,6 @@
 // Which slot a call visits. It relies on the contract of `board_map_read` alone.
+#![tactic(auto)]
+
 ghost use Rattle.std.specs.Prelude.{◌≡◌};
 ghost use Rattle.board_rules.specs.Visit.{aim_of, within_board};
 

@@ -1,5 +1,7 @@
 // Any call as a visit of one slot: first the fence of the node that it looks at, then the call. It relies on the contracts of `board_gate`,
 // `board_visit`, `board_visit_open`, `board_visit_care` and `board_records` alone.
+#![tactic(auto)]
+
 ghost use Rattle.std.specs.Prelude.{◌≡◌};
 ghost use Rattle.board_call.specs.declared.Call.TheVariants.{Open};
 ghost use Rattle.board_call.specs.declared.AnyCall.TheVariants.{Base};

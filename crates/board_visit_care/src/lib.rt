@@ -1,5 +1,7 @@
 // A care as a visit of one slot: a Held request is released, one that waits, owes or clears takes its step, and one that asks is freed with no verb. It
 // relies on the contracts of `board_visit_verb`, `board_records` and `agent_request` alone.
+#![tactic(auto)]
+
 ghost use Rattle.std.specs.Prelude.{◌≡◌};
 ghost use Rattle.board_rules.specs.Sent.{handed};
 ghost use Rattle.board_nodes.specs.Visit.{care_visit, unasked_visit};

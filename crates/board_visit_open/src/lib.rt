@@ -1,4 +1,6 @@
 // An open as a visit of one slot. It relies on the contracts of `board_records` and `agent_request` alone.
+#![tactic(auto)]
+
 ghost use Rattle.std.specs.Prelude.{◌≡◌};
 ghost use Rattle.board_rules.specs.Sent.{handed};
 ghost use Rattle.board_rules.specs.Visit.{open_visit};

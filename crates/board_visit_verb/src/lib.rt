@@ -1,5 +1,7 @@
 // A verb sent for one request and its result taken: what becomes of the request and of the lent words, and the answer. No table of slots is handled
 // here. It relies on the contracts of `word_verbs`, `agent_sends`, `agent_takes`, `agent_request` and `board_records` alone.
+#![tactic(auto)]
+
 ghost use Rattle.std.specs.Prelude.{◌≡◌, [], get_or, set};
 ghost use Rattle.agent_rules.specs.Life.{left_by, step_sends, release_sends, step_takes, release_takes};
 ghost use Rattle.board_rules.specs.declared.Answer.TheVariants.{Told};
@@ -51,7 +53,7 @@ fn refusal(q: Request, v: Verb, words: &[u64]) -> u8
 }
 
 // What became of a verb: why it did not go out, or 0 and what came back.
-#[derive(Drop)]
+#[derive(Clone, Copy)]
 struct Went {
     number: u8,
     value: u64,

@@ -1,5 +1,7 @@
 // The step of a request that goes on waiting, told apart: it leaves the request and the words, so that a run need not visit it.
 // It relies on the contracts of `board_records`, `agent_request`, `agent_ticket` and `word_layout` alone.
+#![tactic(auto)]
+
 ghost use Rattle.std.specs.Prelude.{◌≡◌};
 ghost use Rattle.board_call.specs.declared.AnyCall.TheVariants.{Base};
 ghost use Rattle.board_visit_waiting.specs.Waits.{is_waiting, number_ahead, still_ahead, stepped_slot};

@@ -1,5 +1,7 @@
 // Node 3 is fenced. A begin without words is refused and leaves the fence; one with words takes it away. No schedule has a begin. What it prints is
 // compared with what an independent implementation computes.
+#![tactic(auto)]
+
 use board_slots::Board;
 use run_play::Ran;
 

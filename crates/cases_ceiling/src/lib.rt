@@ -1,5 +1,6 @@
 // Drives one record through runs to the ceiling: no schedule that a program reads is long enough for that. One record is opened, asked for and
 // released 32,767 times, and then a second schedule is played on the same board and printed.
+#![tactic(auto)]
 
 // Plays the second schedule after 32,767 tickets of a mode were given and released on record 0.
 pub fn after_almost_all_tickets(mode: u8, second: &[u8]) {

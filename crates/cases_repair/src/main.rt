@@ -1,4 +1,6 @@
 // Plays and repairs with each file that its arguments name, as the repair program would, after a line with the file's name.
+#![tactic(auto)]
+
 use libc::STDOUT_FILENO;
 
 fn repair_file(i: usize) {

@@ -1,4 +1,6 @@
 // Plays each file that its arguments name, as the player would, after a line with the file's name.
+#![tactic(auto)]
+
 use libc::STDOUT_FILENO;
 
 fn play_file(i: usize) {

@@ -1,1 +1,2 @@
 // Every sequence of calls of all seven kinds, in definitions and laws alone.
+#![tactic(auto)]

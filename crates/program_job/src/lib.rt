@@ -1,5 +1,7 @@
 // The programs' whole jobs: a schedule played on a fresh board of 64 words, in as many runs as the report's buffer needs; and the same followed by the
 // repair of that board. No contract can say what is written; all that matters is done by `run_play` and `repair_all`.
+#![tactic(auto)]
+
 use board_slots::Board;
 
 // Whether a schedule has over 65,536 bytes. Then only the last line is printed, with 13.

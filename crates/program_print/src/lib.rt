@@ -1,5 +1,7 @@
 // What programs print: a line for each entry of a report, the last line, and a line for each care of a repair. Lines are collected and go out in
 // large writes. No contract can say what is written.
+#![tactic(auto)]
+
 use libc::STDOUT_FILENO;
 
 // Writes the first n bytes of a text.

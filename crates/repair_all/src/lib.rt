@@ -1,12 +1,14 @@
 // The repair of a board: passes until one brings nothing on, at most as many as the lent log has room for. A repair that was cut off is taken up again
 // by another call on the board that it left (`PassesTakenUpAgain`). It relies on the contract of `repair_pass` alone.
+#![tactic(auto)]
+
 ghost use Rattle.std.specs.Prelude.{◌≡◌};
 ghost use Rattle.repair_all.specs.Repairs.{Repairs};
 
 use board_slots::Board;
 
 // A board after passes, how many cares they made, and whether the last of them brought nothing on.
-#[derive(Drop)]
+#[derive(Clone, Copy)]
 pub struct Repaired {
     pub board: Board,
     pub cares: usize,

@@ -1,5 +1,7 @@
 // One pass of the repair: a care of every slot in use of a fenced node, lowest first, each told in 3 bytes of a lent log. The board is in one local, so
 // that no care copies the table. It relies on the contracts of `board_visit_care`, `board_gate`, `board_numbers` and `agent_request` alone.
+#![tactic(auto)]
+
 ghost use Rattle.std.specs.Prelude.{◌≡◌, ◌&&◌, ◌||◌};
 ghost use Rattle.agent_request.specs.Request.{in_use};
 ghost use Rattle.board_call.specs.declared.AnyCall.TheVariants.{Care};
@@ -14,7 +16,7 @@ use board_rules::Answer;
 use board_slots::Board;
 
 // A board after a pass, how many cares it made, and whether one of them brought something on.
-#[derive(Drop)]
+#[derive(Clone, Copy)]
 pub struct PassMade {
     pub board: Board,
     pub cares: usize,

@@ -1,4 +1,6 @@
 // Report entries: 12 bytes for a played record. It relies on types alone.
+#![tactic(auto)]
+
 ghost use Rattle.std.specs.Prelude.{◌≡◌};
 ghost use Rattle.run_entry.specs.Entry.{put_of};
 

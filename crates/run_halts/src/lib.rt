@@ -1,4 +1,6 @@
 // What stops a run before a record, and what it ends with where no record stands. It relies on types alone.
+#![tactic(auto)]
+
 ghost use Rattle.std.specs.Prelude.{◌≡◌, ltb};
 ghost use Rattle.run_rules.specs.Halts.{is_end, halted_of, leaves_of};
 

@@ -1,6 +1,8 @@
 // A run: plays the records of a schedule one by one and reports each in 12 bytes. The board is in one local and its map in another, so that
 // no record copies the table. A step that goes on waiting, which changes nothing of the board and no word, is reported and counted without a visit;
 // an open goes its own way, without what only the other calls need. It relies on the contracts of the crates that it calls alone.
+#![tactic(auto)]
+
 ghost use Rattle.std.specs.Prelude.{◌≡◌};
 ghost use Rattle.agent_rules.specs.declared.Answer.TheVariants.{Waiting};
 ghost use Rattle.board_call.specs.declared.Call.TheVariants.{Step};
@@ -14,7 +16,7 @@ use board_slots::Board;
 use schedule_bytes::Next;
 
 // What a run came to.
-#[derive(Drop)]
+#[derive(Clone, Copy)]
 pub struct Ran {
     pub ending: u8,
     pub records: usize,

@@ -1,5 +1,7 @@
 // One record of a run played: the visit of its slot, its entry in the report, and how many verbs it sent. No table of slots is handled here.
 // It relies on the contracts of `board_visit_any`, `board_gate`, `board_numbers` and `run_entry` alone.
+#![tactic(auto)]
+
 ghost use Rattle.std.specs.Prelude.{◌≡◌};
 ghost use Rattle.board_call.specs.declared.Call.TheVariants.{Open};
 ghost use Rattle.board_call.specs.declared.AnyCall.TheVariants.{Base};
@@ -10,7 +12,7 @@ use agent_request::Request;
 use board_call::{AnyCall, Call};
 
 // What a turn leaves to whoever holds the table: the request that its slot gets, and the verbs sent.
-#[derive(Drop)]
+#[derive(Clone, Copy)]
 pub struct Turned {
     pub request: Request,
     pub verbs: usize,

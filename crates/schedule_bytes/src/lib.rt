@@ -1,12 +1,14 @@
 // Schedules in bytes. What stands at a place of a slice: a record with the next place, the end, an unknown kind, or a cut body.
 // It relies on nothing but the type of a call, and knows nothing of boards.
+#![tactic(auto)]
+
 ghost use Rattle.std.specs.Prelude.{◌≡◌, ◌+◌, ◌*◌, ◌≤◌, length};
 ghost use Rattle.schedule_kinds.specs.Kinds.{body_of};
 ghost use Rattle.schedule_bytes.specs.Schedule.{byte_at, call_at, next_of};
 
 use board_call::{AnyCall, Call};
 
-#[derive(Drop)]
+#[derive(Clone, Copy)]
 pub enum Next {
     // the call, and the place after its record
     Record(AnyCall, usize),
@@ -16,6 +18,7 @@ pub enum Next {
 }
 
 // How long the body of a kind is; 0 for an unknown kind.
+#[tactic(auto, unfolding(schedule_kinds::specs::Kinds::body_of, schedule_kinds::specs::Kinds::widths_of))]
 pub fn body(kind: u8) -> usize
     ensures { result ≡ body_of kind }
 {
@@ -53,6 +56,7 @@ fn pair_at(s: &[u8], i: usize) -> u64
 }
 
 // The call of a kind whose body begins at a place and is all there.
+#[tactic(auto, using(crate::proofs::Fields::one, crate::proofs::Fields::two, crate::proofs::Fields::open_as, crate::proofs::Fields::seventh), unfolding(schedule_kinds::specs::Kinds::body_of, schedule_kinds::specs::Kinds::widths_of, crate::specs::Schedule::call_at, schedule_kinds::specs::Kinds::call_of, crate::specs::Schedule::numbers_at))]
 fn call_at(kind: u8, s: &[u8], i: usize) -> AnyCall
     requires kind_in_bounds { i + body_of kind ≤ length s.now }
     requires fact { body_of kind ≡ 0 → ⊥ }
@@ -70,6 +74,7 @@ fn call_at(kind: u8, s: &[u8], i: usize) -> AnyCall
 }
 
 // What stands at a place, for any bytes and any place.
+#[tactic(auto, unfolding(crate::specs::Schedule::next_of))]
 pub fn next_at(s: &[u8], at: usize) -> Next
     ensures { result ≡ next_of s.now at }
 {

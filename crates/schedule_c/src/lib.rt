@@ -1,5 +1,7 @@
 // Schedules for a caller in C: what stands at a place, and a record written at one, in plain numbers. It relies on the contracts of
 // `schedule_bytes`, `schedule_parts` and `schedule_writer` alone.
+#![tactic(auto)]
+
 ghost use Rattle.std.specs.Prelude.{◌≡◌};
 ghost use Rattle.schedule_kinds.specs.Kinds.{parts};
 ghost use Rattle.schedule_writing.specs.Writing.{writing_of};

@@ -1,4 +1,6 @@
 // A call taken apart into its kind and numbers. It relies on types alone.
+#![tactic(auto)]
+
 ghost use Rattle.std.specs.Prelude.{◌≡◌};
 ghost use Rattle.board_call.specs.declared.AnyCall.TheVariants.{Base};
 ghost use Rattle.schedule_kinds.specs.Kinds.{parts, parts_of};

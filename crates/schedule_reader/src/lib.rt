@@ -1,5 +1,7 @@
 // A reader over a schedule: it hands out what stands at its place, one after the other, and keeps its place. `read_at` does the work on a
 // slice and a place and is covered; the functions over the struct are thin, each a walk by hand. Callers use `first`, and need none.
+#![tactic(auto)]
+
 ghost use Rattle.std.specs.Prelude.{◌≡◌};
 ghost use Rattle.schedule_reader.specs.Reading.{standing, place_after, handed_of, at_place, moved_on};
 
@@ -12,7 +14,7 @@ pub struct Reader<'a> {
 }
 
 // What was handed out, and the place after it.
-#[derive(Drop)]
+#[derive(Clone, Copy)]
 pub struct Handed {
     pub next: Next,
     pub at: usize,

@@ -1,6 +1,8 @@
 // The schedule writer: a call goes in, its record is written at a place of a lent buffer, and the next free place comes back. `put` writes a
 // kind with its numbers, field by field as the kind's widths say; `write` writes a call. It relies on the contracts of `schedule_bytes` and
 // `schedule_parts`, and knows nothing of boards: a call that the board would refuse is written like any other.
+#![tactic(auto)]
+
 ghost use Rattle.std.specs.Prelude.{◌≡◌, ◌+◌, ◌≤◌, ◌^◌, ◌∷◌, [], leb, length};
 ghost use Rattle.std.proofs.lemmas.List.Edits.{sets};
 ghost use Rattle.schedule_kinds.specs.Kinds.{widths_of, numbers_of};
@@ -12,7 +14,7 @@ use schedule_kinds::Parts;
 use schedule_writing::{Placed, Written};
 
 // How many bytes each field of a kind takes, 0 where there is none.
-#[derive(Drop)]
+#[derive(Clone, Copy)]
 struct Widths {
     first: usize,
     second: usize,

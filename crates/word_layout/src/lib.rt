@@ -1,4 +1,6 @@
 // The lock word: {nX, nS, mX, mS} in one u64. It uses the types of `word_counter` and knows nothing of requests, tickets or boards.
+#![tactic(auto)]
+
 ghost use Rattle.std.specs.Prelude.{◌≡◌};
 ghost use Rattle.word_layout.specs.Word.{step_of, back_of, split_of, join_of};
 
@@ -6,7 +8,7 @@ use word_counter::{Exclusive, Shared};
 
 // The four counters of a word: releases nX and nS, next tickets mX and mS.
 #[repr(C)]
-#[derive(Drop)]
+#[derive(Clone, Copy)]
 pub struct Counters {
     pub nx: Exclusive,
     pub ns: Shared,
@@ -15,7 +17,7 @@ pub struct Counters {
 }
 
 // Which of the four.
-#[derive(Drop)]
+#[derive(Clone, Copy)]
 pub enum Counter {
     NX,
     NS,

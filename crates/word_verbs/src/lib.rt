@@ -1,4 +1,6 @@
 // The three verbs on a lent word. It relies on nothing.
+#![tactic(auto)]
+
 ghost use Rattle.std.specs.Prelude.{◌≡◌};
 ghost use Rattle.word_layout.specs.Word.{add_of, swap_of};
 
