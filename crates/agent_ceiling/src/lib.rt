@@ -35,6 +35,7 @@ fn rest(x: Exclusive, s: Shared) -> u64
 }
 
 // The clearing word that comes with a ticket drawn at the counters p, or 0.
+#[tactic(auto, unfolding(crate::specs::Ceiling::clearing_word_of))]
 pub fn clearing_word(mode: Mode, p: Counters) -> u64
     ensures { result ≡ clearing_word_of mode p }
 {

@@ -28,6 +28,7 @@ fn release_counter(m: Mode) -> Counter
 }
 
 // What a step of the request sends; Nothing where a step is refused.
+#[tactic(auto, unfolding(agent_rules::specs::Life::step_sends))]
 pub fn step_sends(q: Request) -> Verb
     ensures { result ≡ step_sends q }
 {
@@ -43,6 +44,7 @@ pub fn step_sends(q: Request) -> Verb
 }
 
 // What a release of the request sends; Nothing where a release is refused.
+#[tactic(auto, unfolding(agent_rules::specs::Life::release_sends))]
 pub fn release_sends(q: Request) -> Verb
     ensures { result ≡ release_sends q }
 {

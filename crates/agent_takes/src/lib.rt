@@ -54,6 +54,7 @@ fn with_ticket(q: Request, p: Counters) -> Request
 }
 
 // What an Asking request becomes, with p the counters of the word that came back.
+#[tactic(auto, unfolding(agent_rules::specs::Life::asked))]
 fn asked_with(q: Request, p: Counters) -> Taken
     ensures { result ≡ asked q p }
 {
@@ -84,6 +85,7 @@ fn let_go(q: Request) -> Taken
 }
 
 // What the request becomes when the result v of its step's verb arrives.
+#[tactic(auto, unfolding(agent_rules::specs::Life::step_takes))]
 pub fn step_takes(q: Request, v: u64) -> Taken
     ensures { result ≡ step_takes q v }
 {
@@ -99,6 +101,7 @@ pub fn step_takes(q: Request, v: u64) -> Taken
 }
 
 // What the request becomes when the result v of its release's verb arrives: it is the same for every v.
+#[tactic(auto, unfolding(agent_rules::specs::Life::release_takes))]
 pub fn release_takes(q: Request, v: u64) -> Taken
     ensures { result ≡ release_takes q v }
 {

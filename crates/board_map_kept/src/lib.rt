@@ -75,6 +75,7 @@ fn plus(m: Map, i: usize, k: u64) -> Map
 }
 
 // The map after the request of slot i changed: at most the slot's own bit changes.
+#[tactic(auto, unfolding(board_slots::specs::Map::marked_of))]
 pub fn marked(m: Map, i: usize, before: Request, after: Request) -> Map
     ensures { result.parts ≡ marked_of m.parts i before after }
 {

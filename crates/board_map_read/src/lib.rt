@@ -23,6 +23,7 @@ fn ones_in(part: u64) -> u64
 }
 
 // The lowest slot whose bit is zero, or 256.
+#[tactic(auto, unfolding(board_slots::specs::Map::lowest_zero))]
 pub fn lowest(m: Map) -> u64
     ensures { result ≡ lowest_zero m.parts }
 {

@@ -45,7 +45,7 @@ use Rattle.board_rules.specs.Table.{no_record, said_to, outcome_of, answer_named
 use Rattle.board_rules.specs.declared.Answer.{Answer}
 use Rattle.board_rules.specs.declared.Answer.TheVariants.{Refused, Told}
 use Rattle.board_rules.proofs.Told.{apart}
-use Rattle.board_rules.proofs.Table.{past, not_past, no_record, number_is, refused_slot, begin_refused_exactly, begin_accepted_exactly, begun_exactly}
+use Rattle.board_rules.proofs.Table.{past, not_past, no_record_law, number_is, refused_slot, begin_refused_exactly, begin_accepted_exactly, begun_exactly}
 use Rattle.board_rules.proofs.Table.{nothing_else_is_said, names_its_slot, value_is_said, verbs_are_counted, answer_is_its_numbers}
 use Rattle.board_nodes.specs.Site.{Site, SiteDone, inner, fenced_at, shut_at, refused_at, around, opens_shut, used_shut}
 use Rattle.board_nodes.specs.Site.{opened_by, stepped_at, released_at, cared_at, fenced_by, shown_at, played_at, begun_at}
@@ -99,7 +99,7 @@ abbrev opening : ℕ → ℕ → State → List Line
 opening r m s = line 2 (no_record r s) ∷ line 3 (ltb 1 m) ∷ []
 
 opens_gate : (r m : ℕ) (s : State) (shut : Bool) → opens_shut r m shut s.words ≡ passes (opening r m s) shut
-opens_gate r m s shut = ap (λ (x : Bool). x && (not (ltb 1 m) && shut)) (turn_round (is_record r s.words) (no_record r s) (no_record r s))
+opens_gate r m s shut = ap (λ (x : Bool). x && (not (ltb 1 m) && shut)) (turn_round (is_record r s.words) (no_record r s) (no_record_law r s))
 
 abbrev naming : ℕ → Request → List Line
 naming i q = line 1 (ltb 255 i) ∷ line 4 (is_free q) ∷ []
@@ -126,7 +126,7 @@ cared_number i s =
     (λ e. care_number (phase_of q.phase) q (word_of s i) refl ∙ ap (λ (x : Bool). if x then 5 else 0) e) ∙
     ap (λ (x : Bool). if x then 1 else if not (in_use q) then 4 else if not (is_record q.«record» s.words) then 2 else 0) (past 255 i) ∙
     ap (λ (x : Bool). if ltb 255 i then 1 else if x then 4 else if not (is_record q.«record» s.words) then 2 else 0) (free_as_kept q) ∙
-    ap (λ (x : Bool). if ltb 255 i then 1 else if is_free q then 4 else if x then 2 else 0) (no_record q.«record» s)
+    ap (λ (x : Bool). if ltb 255 i then 1 else if is_free q then 4 else if x then 2 else 0) (no_record_law q.«record» s)
   where
     tests :
         (x y z : Bool) (d : Done) →

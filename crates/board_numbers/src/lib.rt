@@ -69,6 +69,7 @@ pub fn tell(c: Call, a: Answer) -> Said
 }
 
 // One where an accepted step or release sent a verb, else 0.
+#[tactic(auto, using(crate::proofs::Verbs::no_verb, crate::proofs::Verbs::some_verb))]
 pub fn verbs_of(c: Call, a: Answer) -> usize
     ensures { result ≡ verbs_of c a }
 {
@@ -85,6 +86,7 @@ pub fn verbs_of(c: Call, a: Answer) -> usize
 }
 
 // The same of any call: a care counts as a step, but for one that freed a request unasked.
+#[tactic(auto, unfolding(board_nodes::specs::Answers::verbs_of_any))]
 pub fn verbs_of_any(o: AnyCall, a: Answer) -> usize
     ensures { result ≡ verbs_of_any o a }
 {

@@ -18,6 +18,7 @@ fn within(i: u64) -> usize
 }
 
 // The slot that a call visits.
+#[tactic(auto, unfolding(board_rules::specs::Visit::aim_of))]
 pub fn aim(c: Call, m: Map) -> usize
     ensures { result ≡ aim_of c m.parts }
 {

@@ -9,6 +9,7 @@ use agent_request::Request;
 use board_rules::{Answer, Seen};
 
 // The visit of slot i, whose request is q, by an open: what becomes of the request, and the answer. The words are only counted.
+#[tactic(auto, using(board_rules::proofs::Sent::record_small), unfolding(board_rules::specs::Visit::open_visit))]
 pub fn open_visit(record: u64, mode: u64, i: usize, q: Request, words: &[u64]) -> Seen
     ensures { result ≡ handed (open_visit «record» mode i q words.now) }
 {

@@ -37,6 +37,7 @@ fn send(word: &mut u64, v: Verb) -> u64
 }
 
 // Why a verb may not go out for a request, or 0.
+#[tactic(auto, unfolding(board_rules::specs::Records::refusal_of))]
 fn refusal(q: Request, v: Verb, words: &[u64]) -> u8
     ensures { result ≡ refusal_of q v words.now }
 {
@@ -60,6 +61,7 @@ struct Went {
 }
 
 // Sends a verb to the request's word, if it may go out.
+#[tactic(auto, using(board_rules::proofs::Sent::inside))]
 fn go_out(q: Request, v: Verb, words: &mut [u64]) -> Went
     ensures number { result.number ≡ refusal_of q v words.old }
     ensures kept { (result.number ≡ 0 → ⊥) → words.new ≡ words.old }
@@ -88,6 +90,7 @@ fn told(t: agent_rules::Taken) -> Seen
 }
 
 // A step: the verb of its phase goes out, and what came back is taken.
+#[tactic(auto, using(board_rules::proofs::Sent::refused_out, board_rules::proofs::Sent::accepted_out))]
 pub fn step_visit(q: Request, words: &mut [u64]) -> Seen
     ensures said { result ≡ handed (sent_visit q (step_sends q) (step_takes q) words.old) }
     ensures left { words.new ≡ (sent_visit q (step_sends q) (step_takes q) words.old).words }
@@ -100,6 +103,7 @@ pub fn step_visit(q: Request, words: &mut [u64]) -> Seen
 }
 
 // A release, in the same way.
+#[tactic(auto, using(board_rules::proofs::Sent::refused_out, board_rules::proofs::Sent::accepted_out))]
 pub fn release_visit(q: Request, words: &mut [u64]) -> Seen
     ensures said { result ≡ handed (sent_visit q (release_sends q) (release_takes q) words.old) }
     ensures left { words.new ≡ (sent_visit q (release_sends q) (release_takes q) words.old).words }

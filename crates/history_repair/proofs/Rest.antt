@@ -36,7 +36,7 @@ use Rattle.history_promises.proofs.Seats.{in_board, lent_to_law}
 use Rattle.history_promises.proofs.Demand.{demand}
 use Rattle.history_nodes.specs.History.{AnyMove, ledger_at, site_at}
 use Rattle.history_nodes.specs.Promises.{plain}
-use Rattle.history_nodes.proofs.Gates.{in_use, gates}
+use Rattle.history_nodes.proofs.Gates.{in_use_law, gates}
 use Rattle.history_nodes.proofs.Demand.{tied_at, whole_at_law}
 use Rattle.history_repair.specs.Promises.{LostSlotsAreKeptSo, repaired, LostSlotsRest, Lives, OldestLives, WaiterWaitsForTheLiving, NoneWaitsForTheLostAlone}
 use Rattle.history_repair.specs.Promises.{ClearerWaitsForTheLiving, AtRest, RepairLeaves, AllLost, NothingIsLeft}
@@ -110,7 +110,7 @@ module _ {n : ℕ} (u : Site) {L : Ledger} (T : Tied n (inner u) L) (rests : (i 
   lost_sat i lost e = clash (in_use (slot_at (inner u) i)) (both_first (in_use (slot_at (inner u) i)) (shut_at u i) lost) (nobody_free T i e)
 
   sat_lost : (i : ℕ) → Sat i → shut_at u i ≡ true → is_lost u i ≡ true
-  sat_lost i d h = both (in_use (slot_at (inner u) i)) (shut_at u i) (in_use T i d) h
+  sat_lost i d h = both (in_use (slot_at (inner u) i)) (shut_at u i) (in_use_law T i d) h
 
   -- what the care of a lost slot is told, and that it is nothing that brings it on
   lost_told : (i : ℕ) → is_lost u i ≡ true → CareTells (L.seats i).stage (played_at (Care i) u).answer (plain u (Step i)) (plain u (Release i))
@@ -271,7 +271,7 @@ module _ {n : ℕ} (u : Site) {L : Ledger} (T : Tied n (inner u) L) (rests : (i 
     none_lives r j lent l =
         let i = (ticket_at (L.tickets r) j).slot in
         let seat = (demand T).ticket_has_its_seat r j lent (inside (L.tickets r) j l.0) l.0 in
-        clash (shut_at u i) (only i (in_use T i (has_sat (L.seats i).stage seat.0))) l.1
+        clash (shut_at u i) (only i (in_use_law T i (has_sat (L.seats i).stage seat.0))) l.1
 
     none_left : (i : ℕ) → in_use (slot_at (inner u) i) ≡ false
     none_left i = ⊎_elim still (λ e. e) (true_or_false (in_use (slot_at (inner u) i)))
@@ -284,7 +284,7 @@ module _ {n : ℕ} (u : Site) {L : Ledger} (T : Tied n (inner u) L) (rests : (i 
             (λ e.
             ⊎_elim
             (λ w. none_lives (L.seats i).about w.0 (lent_to_law T i Clears e refl) w.1)
-            (λ w. clash (shut_at u w.0) (only w.0 (in_use T w.0 (busy (L.seats w.0).stage Owes w.1 refl))) w.3)
+            (λ w. clash (shut_at u w.0) (only w.0 (in_use_law T w.0 (busy (L.seats w.0).stage Owes w.1 refl))) w.3)
             (clearer_waits i lost e))
             (lost_slots_rest i lost)
 

@@ -7,6 +7,7 @@ ghost use Rattle.run_entry.specs.Entry.{put_of};
 use board_rules::Said;
 
 // Writes an entry at a place of the report; where it does not fit nothing is written.
+#[tactic(auto, using(crate::proofs::Stores::twelve, crate::proofs::Stores::misses, crate::proofs::Stores::fits), unfolding(crate::specs::Entry::entry_of))]
 pub fn put(report: &mut [u8], at: usize, d: Said)
     ensures { report.new ≡ put_of report.old at d }
 {

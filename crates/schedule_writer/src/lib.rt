@@ -32,6 +32,7 @@ fn wide(first: usize, second: usize, third: usize) -> Widths
 }
 
 // The widths of a kind's fields: a kind is a line.
+#[tactic(auto, unfolding(schedule_kinds::specs::Kinds::widths_of))]
 fn widths_of(kind: u8) -> Widths
     ensures { (result.first ∷ result.second ∷ result.third ∷ []) ≡ widths_of kind }
 {
