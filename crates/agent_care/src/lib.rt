@@ -11,6 +11,7 @@ use agent_request::{Phase, Request, phase_of};
 use agent_rules::{Answer, Taken, Verb};
 
 // What a care of the request sends; Nothing where the request is Asking, and where a care is refused.
+#[tactic(auto, unfolding(agent_rules::specs::Care::care_sends))]
 pub fn care_sends(q: Request) -> Verb
     ensures { result ≡ care_sends q }
 {
@@ -31,6 +32,7 @@ fn freed_unasked() -> Taken
 }
 
 // What the request becomes when the result v of its care's verb arrives; where the request is Asking it is the same for every v.
+#[tactic(auto, unfolding(agent_rules::specs::Care::care_takes))]
 pub fn care_takes(q: Request, v: u64) -> Taken
     ensures { result ≡ care_takes q v }
 {

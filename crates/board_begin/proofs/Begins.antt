@@ -2,7 +2,7 @@
 -- Assumes nothing.
 use Prim.Native.Nat.{◌<◌, ◌≤◌}
 use mathlib.Core.Path.{◌≡◌, refl}
-use mathlib.Core.Bool.{or_true}
+use mathlib.Core.Bool.{or-true}
 use borrow.Author.Tests.{eq-eqb, ne_eqb, lt-ltb, le-ltb}
 use lib.Dec.{eqb}
 use lib.ListN.{length, replicate}
@@ -17,7 +17,7 @@ module _ (s : Site) where
 
   pub begun_many : 4096 < length s.words → begun_at s ≡ refused_at 9 s
   unfolding begun_at
-  begun_many h = rw (lt-ltb 4096 (length s.words) h, or_true (eqb (length s.words) 0)) refl
+  begun_many h = rw (lt-ltb 4096 (length s.words) h, or-true (eqb (length s.words) 0)) refl
 
   pub begun_all :
       (length s.words ≡ 0 → ⊥) →

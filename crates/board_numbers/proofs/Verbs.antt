@@ -1,7 +1,7 @@
 -- What an answer counts.
 -- Assumes nothing.
 use mathlib.Core.Path.{◌≡◌}
-use mathlib.Core.Bool.{and_true, and-false}
+use mathlib.Core.Bool.{and-true, and-false}
 use borrow.Author.Tests.{eq-eqb, ne_eqb}
 use Rattle.common.specs.Choice.{if◌then◌else◌}
 use Rattle.board_call.specs.declared.Call.{Call}
@@ -15,4 +15,4 @@ module _ (c : Call) (a : Answer) where
 
   pub some_verb : (said_of c a).number ≡ 0 → verbs_of c a ≡ (if sends_verb c then 1 else 0)
   unfolding verbs_of
-  some_verb e = rw (eq-eqb (said_of c a).number 0 e, and_true (sends_verb c))
+  some_verb e = rw (eq-eqb (said_of c a).number 0 e, and-true (sends_verb c))

@@ -10,6 +10,7 @@ use board_rules::Answer;
 use board_slots::Board;
 
 // The word of a record. It looks at no slot.
+#[tactic(auto, unfolding(board_rules::specs::Board::shown_of))]
 pub fn show(words: &[u64], record: u64) -> Answer
     ensures { result ≡ shown_of «record» words.now }
 {
@@ -24,6 +25,7 @@ pub fn show(words: &[u64], record: u64) -> Answer
 }
 
 // How many slots are in use.
+#[tactic(auto, using(board_slots::proofs::Promises::map_counts_used))]
 pub fn used(b: Board) -> u64
     ensures { result ≡ used_slots b.slots }
 {

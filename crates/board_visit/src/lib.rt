@@ -10,6 +10,7 @@ use agent_request::Request;
 use board_call::Call;
 use board_rules::{Answer, Seen};
 
+#[tactic(auto, using(board_rules::proofs::Sent::record_small, board_rules::proofs::Sent::record_lent), unfolding(board_rules::specs::Visit::show_visit, board_rules::specs::Board::shown_of))]
 fn show_visit(record: u64, q: Request, words: &[u64]) -> Seen
     ensures { result ≡ handed (show_visit «record» q words.now) }
 {
@@ -24,6 +25,7 @@ fn show_visit(record: u64, q: Request, words: &[u64]) -> Seen
 }
 
 // The visit of slot i, whose request is q: what becomes of the request, of the words, and the answer.
+#[tactic(auto, using(board_rules::proofs::Words::open_words, board_rules::proofs::Words::show_words), unfolding(board_rules::specs::Visit::named_visit))]
 pub fn visit(c: Call, i: usize, q: Request, words: &mut [u64]) -> Seen
     ensures said { result ≡ handed (visit_of c i q words.old) }
     ensures left { words.new ≡ (visit_of c i q words.old).words }

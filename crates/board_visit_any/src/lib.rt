@@ -13,6 +13,7 @@ use board_call::AnyCall;
 use board_rules::{Answer, Seen};
 
 // The visit behind the gate.
+#[tactic(auto, using(board_rules::proofs::Words::open_words), unfolding(board_rules::specs::Visit::named_visit))]
 fn behind_gate(o: AnyCall, i: usize, q: Request, words: &mut [u64]) -> Seen
     ensures said { result ≡ handed (behind_gate o i q words.old) }
     ensures left { words.new ≡ (behind_gate o i q words.old).words }
@@ -36,6 +37,7 @@ fn behind_gate(o: AnyCall, i: usize, q: Request, words: &mut [u64]) -> Seen
 }
 
 // The visit of slot i, whose request is q, by any call; `shut` says whether the node that it looks at is fenced.
+#[tactic(auto, unfolding(board_nodes::specs::Visit::any_visit))]
 pub fn any_visit(o: AnyCall, i: usize, shut: bool, q: Request, words: &mut [u64]) -> Seen
     ensures said { result ≡ handed (any_visit o i shut q words.old) }
     ensures left { words.new ≡ (any_visit o i shut q words.old).words }
@@ -48,6 +50,7 @@ pub fn any_visit(o: AnyCall, i: usize, shut: bool, q: Request, words: &mut [u64]
 }
 
 // The same of an open by any node, which leaves the words; it stands apart because there is less to do.
+#[tactic(auto, unfolding(board_nodes::specs::Visit::any_visit))]
 pub fn any_open(record: u64, mode: u64, i: usize, shut: bool, q: Request, words: &[u64]) -> Seen
     ensures { result ≡ handed (any_visit (Base (Open «record» mode)) i shut q words.now) }
 {

@@ -10,6 +10,7 @@ use agent_request::{Phase, Request};
 use board_rules::{Answer, Seen};
 
 // A request that asks is freed, if its record is lent; the words are only counted.
+#[tactic(auto, unfolding(board_nodes::specs::Visit::unasked_visit))]
 fn unasked_visit(q: Request, words: &[u64]) -> Seen
     ensures { result ≡ handed (unasked_visit q words.now) }
 {
@@ -23,6 +24,7 @@ fn unasked_visit(q: Request, words: &[u64]) -> Seen
 }
 
 // The visit of a slot, whose request is q, by a care: what becomes of the request and of the words, and the answer.
+#[tactic(auto, using(board_nodes::proofs::Visits::free_care, board_nodes::proofs::Visits::asking_care, board_nodes::proofs::Visits::unasked_words, board_nodes::proofs::Visits::waiting_care, board_nodes::proofs::Visits::release_care, board_nodes::proofs::Visits::owing_care, board_nodes::proofs::Visits::clearing_care))]
 pub fn care_visit(q: Request, words: &mut [u64]) -> Seen
     ensures said { result ≡ handed (care_visit q words.old) }
     ensures left { words.new ≡ (care_visit q words.old).words }

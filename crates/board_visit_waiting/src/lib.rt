@@ -62,6 +62,7 @@ pub fn stepped(o: AnyCall) -> usize
 }
 
 // How many are ahead of a request that waits and goes on waiting, else 0; 0 where its node is fenced. Its step would leave the request and the words.
+#[tactic(auto, using(board_rules::proofs::Sent::record_lent), unfolding(crate::specs::Waits::still_ahead))]
 pub fn still_ahead(shut: bool, q: Request, words: &[u64]) -> u64
     ensures { result ≡ still_ahead shut q words.now }
 {

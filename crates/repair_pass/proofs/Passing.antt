@@ -3,7 +3,7 @@
 -- Assumes nothing.
 use Prim.Native.Nat.{ℕ, zero, suc, ◌+◌, ◌-◌, ◌<◌, ◌≤◌}
 use mathlib.Core.Path.{◌≡◌, refl, ap, sym, ◌∙◌}
-use mathlib.Core.Bool.{Bool, true, false, ◌||◌, or_false}
+use mathlib.Core.Bool.{Bool, true, false, ◌||◌, or-false}
 use mathlib.Core.List.{List, [], ◌∷◌}
 use native.Mathlib.Omega.{arith}
 use native.Mathlib.Nat.{add-zero}
@@ -196,7 +196,7 @@ ends b words₀ log₀ at cur words log place cares on i p h r e =
           sym (p.count ∙ ap (λ (x : Tended). cares + length x.cares) rest ∙ add-zero cares);
       brings =
           ap (λ (x : PassMade). x.progress) e ∙
-          sym (p.brings ∙ ap (λ (x : Tended). on || some_bring_on x.cares) rest ∙ or_false on);
+          sym (p.brings ∙ ap (λ (x : Tended). on || some_bring_on x.cares) rest ∙ or-false on);
       words_after = sym (ap (λ (x : Site). x.words) site);
       log_after = sym (p.logged ∙ ap (λ (x : Tended). logged_at log place x.cares) rest ∙ nothing_logged log place);
     }

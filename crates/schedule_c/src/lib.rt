@@ -62,6 +62,7 @@ pub extern "C" fn brancove_schedule_read(schedule: &[u8], place: usize) -> Stand
 // Writes a kind with its numbers at a place of the buffer, and gives the next free place: 8 where there is no such kind, 18 where a number is
 // too large for its field, 12 where there is no room, and then buffer and place are as they were.
 #[unsafe(no_mangle)]
+#[tactic(auto, using(schedule_kinds::proofs::EachKind::no_body, schedule_writer::proofs::Stores::unknown, schedule_writer::proofs::Stores::ends))]
 pub extern "C" fn brancove_schedule_write(
     buffer: &mut [u8],
     place: usize,
