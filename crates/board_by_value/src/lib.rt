@@ -36,7 +36,7 @@ fn placed(b: Board, words: &mut [u64], o: AnyCall, i: usize) -> Played
 }
 
 // Takes the lowest free slot, for node 0, for a request that is to ask.
-#[tactic(auto, using(board_rules::proofs::Visits::aim_small, board_nodes::proofs::Placed::by_visit))]
+#[tactic(auto, using(board_rules::proofs::Visits::aim_small))]
 pub fn open(b: Board, words: &mut [u64], record: u64, mode: u64) -> Played
     ensures { Leaves (played_at (Base (Open «record» mode)) (lent_to b words.old)) result words.new }
 {
@@ -45,7 +45,7 @@ pub fn open(b: Board, words: &mut [u64], record: u64, mode: u64) -> Played
 }
 
 // The same for any node.
-#[tactic(auto, using(board_rules::proofs::Visits::aim_small, board_nodes::proofs::Placed::by_visit))]
+#[tactic(auto, using(board_rules::proofs::Visits::aim_small))]
 pub fn open_as(b: Board, words: &mut [u64], record: u64, mode: u64, node: u8) -> Played
     ensures { Leaves (played_at (OpenAs «record» mode node) (lent_to b words.old)) result words.new }
 {
@@ -54,7 +54,7 @@ pub fn open_as(b: Board, words: &mut [u64], record: u64, mode: u64, node: u8) ->
 }
 
 // Sends the phase's verb of a slot and takes its result.
-#[tactic(auto, using(board_rules::proofs::Visits::aim_small, board_nodes::proofs::Placed::by_visit), unfolding(board_rules::specs::Visit::aim_of))]
+#[tactic(auto, using(board_rules::proofs::Visits::aim_small))]
 pub fn step(b: Board, words: &mut [u64], slot: u64) -> Played
     ensures { Leaves (played_at (Base (Step slot)) (lent_to b words.old)) result words.new }
 {
@@ -63,7 +63,7 @@ pub fn step(b: Board, words: &mut [u64], slot: u64) -> Played
 }
 
 // Sends the release verb of a slot and takes its result.
-#[tactic(auto, using(board_rules::proofs::Visits::aim_small, board_nodes::proofs::Placed::by_visit), unfolding(board_rules::specs::Visit::aim_of))]
+#[tactic(auto, using(board_rules::proofs::Visits::aim_small))]
 pub fn release(b: Board, words: &mut [u64], slot: u64) -> Played
     ensures { Leaves (played_at (Base (Release slot)) (lent_to b words.old)) result words.new }
 {
@@ -72,7 +72,7 @@ pub fn release(b: Board, words: &mut [u64], slot: u64) -> Played
 }
 
 // Fences a node: its slots are left to a caretaker, and it opens none.
-#[tactic(auto, using(board_rules::proofs::Visits::aim_small, board_nodes::proofs::Placed::by_visit), unfolding(board_rules::specs::Visit::aim_of))]
+#[tactic(auto, using(board_rules::proofs::Visits::aim_small))]
 pub fn fence(b: Board, words: &mut [u64], node: u8) -> Played
     ensures { Leaves (played_at (Fence node) (lent_to b words.old)) result words.new }
 {
@@ -81,7 +81,7 @@ pub fn fence(b: Board, words: &mut [u64], node: u8) -> Played
 }
 
 // Cares for a slot of a fenced node: frees a request that asks, releases one that holds, and steps any other.
-#[tactic(auto, using(board_rules::proofs::Visits::aim_small, board_nodes::proofs::Placed::by_visit), unfolding(board_rules::specs::Visit::aim_of))]
+#[tactic(auto, using(board_rules::proofs::Visits::aim_small))]
 pub fn care(b: Board, words: &mut [u64], slot: u64) -> Played
     ensures { Leaves (played_at (Care slot) (lent_to b words.old)) result words.new }
 {

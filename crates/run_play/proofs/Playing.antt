@@ -8,8 +8,6 @@ use mathlib.Core.List.{List, [], ◌∷◌, ◌++◌, append_assoc, append-nil}
 use native.Mathlib.Omega.{arith}
 use native.Mathlib.Nat.{add-zero, sub-zero, eq-or-lt_of_le}
 use borrow.Author.Tests.{eq-eqb, ne_eqb}
-use types.Run.{OneOf}
-use denote.Enum.Declared.{tag_of}
 use lib.Dec.{eqb, ltb}
 use lib.ListN.{length, take, drop, get_or, set, length-append, length-set}
 use lib.Seq.{set-get_or, sets-eq, length-sets, drop-append-add, drop-drop, take_at, length-take-le}
@@ -44,13 +42,12 @@ use Rattle.board_visit_waiting.specs.Waits.{still_ahead, stepped_slot}
 use Rattle.board_visit_waiting.proofs.Waits.{is_its_step, aims_there, waits_visit}
 use Rattle.schedule_bytes.specs.Schedule.{next_of}
 use Rattle.schedule_bytes.specs.declared.Next.TheVariants.{Record}
-use Rattle.schedule_bytes.specs.contracts.Next as next-type
 use Rattle.schedule_bytes.proofs.Bodies.{record_after}
 use Rattle.run_entry.specs.Entry.{entry_of, put_of}
 use Rattle.run_entry.proofs.Stores.{fits}
 use Rattle.run_rules.specs.Halts.{is_end, halted_of, leaves_of}
 use Rattle.run_rules.specs.Run.{Whole, ended, followed, run_of, joined, report_of}
-use Rattle.run_rules.proofs.Runs.{others, plays, halts, leaves}
+use Rattle.run_rules.proofs.Runs.{plays, halts, leaves}
 use Rattle.run_rules.proofs.Wholes.{so_far, whole_at, same_whole, nothing_yet}
 use Rattle.run_turn.specs.Turns.{reported, turn_leaves}
 use Rattle.run_turn.specs.declared.Turned.{Turned}
@@ -476,7 +473,7 @@ module _
 
   pub leaves_here :
       (h : ℕ) (r : Ran) →
-      OneOf others (tag_of next-type.the_type (next_of bytes place)) →
+      ((c : AnyCall) (next : ℕ) → next_of bytes place ≡ Record c next → ⊥) →
       halted_of (is_end (next_of bytes place)) (eqb records allowance) (ltb (length report - records * 12) 12) ≡ 0 →
       h ≡ leaves_of (next_of bytes place) →
       r ≡ record { ending = h; records = records; bytes = place - at; verbs = verbs; board = cur } →

@@ -54,6 +54,7 @@ fn came_to(ending: u8, records: usize, bytes: usize, verbs: usize, board: Board)
 
 // Plays the schedule from a place on, within an allowance of records and the room of the report. It stays above 40 lines: a function for a part
 // of its loop would take the board and copy it, and one for the two tests ahead costs each step a fifth more instructions.
+#[tactic(auto, using(board_rules::proofs::Visits::aim_small))]
 pub fn run(
     b: Board,
     words: &mut [u64],

@@ -4,30 +4,17 @@
 use Prim.Native.Nat.{ℕ, zero, suc, ◌-◌, ◌<◌, ◌≤◌}
 use mathlib.Core.Path.{◌≡◌, refl, ap, sym}
 use mathlib.Core.Bool.{Bool, true, false}
-use mathlib.Core.Logic.{⊎_elim}
 use mathlib.Core.List.{List, [], ◌∷◌}
 use native.Mathlib.Omega.{arith}
 use borrow.Author.Tests.{ltb-false}
 use lib.Dec.{eqb, ltb, eqb-suc-zero}
-use types.Run.{OneOf}
-use denote.Enum.Declared.{tag_of}
 use Rattle.board_call.specs.declared.AnyCall.{AnyCall}
 use Rattle.board_nodes.specs.Site.{Site, site_of, played_at}
 use Rattle.schedule_bytes.specs.Schedule.{next_of}
 use Rattle.schedule_bytes.specs.declared.Next.{Next}
 use Rattle.schedule_bytes.specs.declared.Next.TheVariants.{Record, End, Unknown, Cut}
-use Rattle.schedule_bytes.specs.contracts.Next as next-type
 use Rattle.run_rules.specs.Run.{Whole, ended, followed, spent, goes_on, run_of}
 use Rattle.run_rules.specs.Halts.{is_end, halted_of, leaves_of, HaltsWhereItEnds, LeavesWhereItEnds, PlaysWhereItDoesNot}
-
--- the places of the answers other than a record among the variants
-abbrev pub others : List ℕ
-others = 1 ∷ 2 ∷ 3 ∷ []
-
-no_record_law : (n : Next) → OneOf others (tag_of next-type.the_type n) → (c : AnyCall) (next : ℕ) → n ≡ Record c next → ⊥
-no_record_law n o c next e =
-    let z : OneOf others 0 = rw e at o in
-    ⊎_elim (λ f. omega arith) (⊎_elim (λ f. omega arith) (λ f. omega arith)) z
 
 module _ (at : ℕ) (s : Site) where
   same_end : (m n : ℕ) → m ≡ n → ended m at s ≡ ended n at s
@@ -88,21 +75,14 @@ module _ (bytes : List ℕ) (at : ℕ) (s : Site) (room : ℕ) where
   halts zero h e ne = halts_spent at s (next_of bytes at) (ltb room 12) h e ne
   halts (suc a) h e ne = halts_short at s (next_of bytes at) (ltb room 12) h _ (rw (eqb-suc-zero a) at e) ne
 
-  leaves_none :
+  pub leaves :
       (a : ℕ) →
       ((c : AnyCall) (next : ℕ) → next_of bytes at ≡ Record c next → ⊥) →
       halted_of (is_end (next_of bytes at)) (eqb a 0) (ltb room 12) ≡ 0 →
       run_of a room bytes at s ≡ ended (leaves_of (next_of bytes at)) at s
   unfolding run_of
-  leaves_none zero o e = leaves_spent at s (next_of bytes at) (ltb room 12) e
-  leaves_none (suc a) o e = leaves_short at s (next_of bytes at) (ltb room 12) _ o (rw (eqb-suc-zero a) at e)
-
-  pub leaves :
-      (a : ℕ) →
-      OneOf others (tag_of next-type.the_type (next_of bytes at)) →
-      halted_of (is_end (next_of bytes at)) (eqb a 0) (ltb room 12) ≡ 0 →
-      run_of a room bytes at s ≡ ended (leaves_of (next_of bytes at)) at s
-  leaves a o e = leaves_none a (no_record_law (next_of bytes at) o) e
+  leaves zero o e = leaves_spent at s (next_of bytes at) (ltb room 12) e
+  leaves (suc a) o e = leaves_short at s (next_of bytes at) (ltb room 12) _ o (rw (eqb-suc-zero a) at e)
 
   pub plays :
       (a : ℕ) (c : AnyCall) (next : ℕ) →
@@ -120,7 +100,7 @@ pub halts_where_it_ends : HaltsWhereItEnds
 halts_where_it_ends a room bytes at s ne = halts bytes at s room a _ refl ne
 
 pub leaves_where_it_ends : LeavesWhereItEnds
-leaves_where_it_ends a room bytes at s e none = leaves_none bytes at s room a none e
+leaves_where_it_ends a room bytes at s e none = leaves bytes at s room a none e
 
 pub plays_where_it_does_not : PlaysWhereItDoesNot
 plays_where_it_does_not a room bytes at s c next e n = (plays bytes at s room a c next n e).0

@@ -58,8 +58,8 @@ fn pair_at(s: &[u8], i: usize) -> u64
 // The call of a kind whose body begins at a place and is all there.
 #[tactic(auto, using(crate::proofs::Fields::one, crate::proofs::Fields::two, crate::proofs::Fields::open_as, crate::proofs::Fields::seventh), unfolding(schedule_kinds::specs::Kinds::body_of, schedule_kinds::specs::Kinds::widths_of, crate::specs::Schedule::call_at, schedule_kinds::specs::Kinds::call_of, crate::specs::Schedule::numbers_at))]
 fn call_at(kind: u8, s: &[u8], i: usize) -> AnyCall
-    requires kind_in_bounds { i + body_of kind ≤ length s.now }
-    requires fact { body_of kind ≡ 0 → ⊥ }
+    requires inside { i + body_of kind ≤ length s.now }
+    requires known { body_of kind ≡ 0 → ⊥ }
     ensures { result ≡ call_at kind s.now i }
 {
     match kind {

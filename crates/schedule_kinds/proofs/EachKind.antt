@@ -1,7 +1,7 @@
 -- Why a call is its kind and numbers: each kind has its line in `parts_of` and in `call_of`, and the one undoes the other. What depends on the
 -- kind is shown kind by kind, 0 to 7 and above, once (`none_or_known`).
 -- Assumes nothing.
-use Prim.Native.Nat.{ℕ, zero, suc, ◌+◌, ◌<◌, ◌≤◌}
+use Prim.Native.Nat.{ℕ, zero, suc, ◌<◌, ◌≤◌}
 use mathlib.Core.Path.{◌≡◌, refl, ap}
 use mathlib.Core.Bool.{false}
 use mathlib.Core.Logic.{◌⊎◌, inl, inr, ⊎_elim}
@@ -10,8 +10,6 @@ use native.Mathlib.Omega.{arith}
 use borrow.Author.Tests.{ne_eqb}
 use lib.Dec.{eqb}
 use lib.ListN.{length, get_or}
-use Rattle.common.specs.Choice.{if◌then◌else◌}
-use Rattle.board_call.specs.declared.AnyCall.{AnyCall}
 use Rattle.board_call.specs.declared.AnyCall.TheVariants.{Base, OpenAs, Fence, Care}
 use Rattle.board_call.specs.declared.Call.TheVariants.{Open, Step, Release, Show}
 use Rattle.schedule_kinds.specs.Kinds.{widths_of, body_of, total, parts, parts_of, call_of}
