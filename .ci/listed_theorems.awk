@@ -3,22 +3,22 @@
 # `home` is the crate that says what `Determined` means.
 #
 # Each line has to be one of the following, whole and to the letter; of any other there is a complaint. LABEL is the author's short name
-# for a function, of small letters, digits and -; PATH is the function's path, with dots.
+# for a function, of small letters, digits and _; where it names a module, - may stand for any _. PATH is the function's path, with dots.
 #
 #  what is shown, brought once, by its own name and from nowhere else (one, two or all three of the names):
-#     use Rattle·HOME.specs.Determined.{Determined, DeterminedOf, Says}
+#     use Rattle.HOME.specs.Determined.{Determined, DeterminedOf, Says}
 #  a function of whose contract the toolchain makes a reading; N is a number:
-#     use Rattle·CRATE·proofs.proofs.PATH.Kinds as LABEL-kinds
-#     use Rattle·CRATE·proofs.proofs.PATH.Reads as LABEL-reads
-#     LABEL-determined : Determined N LABEL-kinds.ps LABEL-kinds.r LABEL-reads.Post
-#     LABEL-determined .. = ..
+#     use Rattle.CRATE.proofs.PATH.Kinds as LABEL_kinds
+#     use Rattle.CRATE.proofs.PATH.Reads as LABEL_reads
+#     LABEL_determined : Determined N LABEL_kinds.ps LABEL_kinds.r LABEL_reads.Post
+#     LABEL_determined .. = ..
 #  a function of whose contract it makes none, since a struct is held or lent; the second line here goes on with the third:
-#     use Rattle·CRATE·proofs.proofs.PATH as LABEL
-#     abbrev LABEL-says : Says LABEL.ended (λ w κs a r s.
-#         LABEL.clauses (w .𝓤) (w .H) (w .𝓖 .A) (w .𝓜 .mem) (w .𝓡 .run) κs a .ensures tt r s)
-#     LABEL-says = record { claim = _; exactly = λ w κs a r s. refl }
-#     LABEL-determined : DeterminedOf LABEL.ended (LABEL-says .claim)
-#     LABEL-determined .. = ..
+#     use Rattle.CRATE.specs.contracts.PATH as LABEL
+#     abbrev LABEL_says : Says LABEL.ended (λ w κs a r s.
+#         (LABEL.clauses w.𝓛 w.𝓜.mem w.𝓡.run κs a).ensures tt r s)
+#     LABEL_says = record { claim = _; exactly = λ w κs a r s. refl }
+#     LABEL_determined : DeterminedOf LABEL.ended LABEL_says.claim
+#     LABEL_determined .. = ..
 #  what the proofs use: names that change no word of a theorem's own line, and an operator only from the toolchain's libraries:
 #     use MODULE.{NAME, NAME}
 #     NAME : ..
@@ -32,14 +32,15 @@ function complain(place, text) {
 }
 
 function here(text) { complain(file ":" FNR, text) }
-function is_label(text) { return text ~ /^[a-z][a-z0-9-]*$/ && text !~ /-(kinds|reads|says|determined)$/ }
+function is_label(text) { return text ~ /^[a-z][a-z0-9_]*$/ && text !~ /_(kinds|reads|says|determined)$/ }
+function plain(text) { gsub(/-/, "_", text); return text }
 function ends_with(text, end) { return length(text) > length(end) && substr(text, length(text) - length(end) + 1) == end }
 function without(text, end) { return substr(text, 1, length(text) - length(end)) }
 function is_clause(text, start) { return index(text, start " ") == 1 && text !~ /^[^ ]+ :/ && (text " ") ~ / = / }
 
 # a name that could change what a theorem's line says: the words of that line, operators, libraries
 function is_taken(text) {
-    return text ~ /^(Determined|DeterminedOf|Says|tt|package)$/ || text ~ /-(kinds|reads|says|determined)$/ || text ~ /«|»|·|_/
+    return text ~ /^(Determined|DeterminedOf|Says|tt|package)$/ || text ~ /[-_](kinds|reads|says|determined)$/ || text ~ /«|»|·|◌/
 }
 
 # words that only a declaration of another form has: they stand nowhere, but for the first word of the accepted lines
@@ -53,8 +54,9 @@ function start_file(    part) {
     split(file, part, "/")
     crate = part[2]
     has_file[crate] = 1
-    own = "use Rattle·" crate "·proofs.proofs."
-    meaning = "use Rattle·" home ".specs.Determined."
+    own = "use Rattle." crate ".proofs."
+    contract = "use Rattle." crate ".specs.contracts."
+    meaning = "use Rattle." home ".specs.Determined."
     brings = needs = owner = awaited = ""
 }
 
@@ -105,15 +107,15 @@ awaited != "" {
 }
 
 /^use / { owner = "use"; read_use($0); next }
-/^abbrev [^ ]+-says : / { owner = "says"; read_says($2); next }
-/^[^ ]+-determined : / { owner = "theorem"; read_theorem($1); next }
+/^abbrev [^ ]+_says : / { owner = "says"; read_says($2); next }
+/^[^ ]+_determined : / { owner = "theorem"; read_theorem($1); next }
 /^unfolding [^ ]/ && owner == "helper" { next }
-owner == "proof" && $1 == proved "-determined" && is_clause($0, $1) { next }
+owner == "proof" && $1 == proved "_determined" && is_clause($0, $1) { next }
 {
     owner = "helper"
     helper = $1
-    gsub(/′/, "", helper)
-    if (helper !~ /^[a-z][a-z0-9-]*$/ || helper ~ /^(record|unfolding)$/ || is_taken(helper))
+    gsub(/'/, "", helper)
+    if (helper !~ /^[a-z][a-z0-9_-]*$/ || helper ~ /^(record|unfolding)$/ || is_taken(helper))
         here("a line of none of the accepted forms: it begins with " $1)
     else note_name($1)
 }
@@ -125,20 +127,22 @@ function note_name(text) {
     name_place[names] = file ":" FNR
 }
 
-function read_use(text,    rest, word, count, i, list) {
+function read_use(text,    rest, word, count, i, list, name) {
     if (index(text, meaning) == 1) {
         rest = substr(text, length(meaning) + 1)
         if (brings != "" || rest !~ /^\{(Determined|DeterminedOf|Says)(, (Determined|DeterminedOf|Says))*\}$/)
             here("Determined, DeterminedOf and Says are brought once, by their own names")
         brings = rest
-    } else if (index(text, own) == 1 && index(text, "{") == 0) {
-        count = split(substr(text, length(own) + 1), word, " ")
+    } else if ((index(text, own) == 1 || index(text, contract) == 1) && index(text, "{") == 0) {
+        count = split(substr(text, length(index(text, own) == 1 ? own : contract) + 1), word, " ")
+        name = plain(word[3])
         if (count != 3 || word[2] != "as" || word[1] !~ /^[A-Za-z0-9_.]+$/) here("a use of none of the accepted forms")
-        else if (ends_with(word[1], ".Kinds") && ends_with(word[3], "-kinds"))
-            bring("kinds", without(word[3], "-kinds"), without(word[1], ".Kinds"))
-        else if (ends_with(word[1], ".Reads") && ends_with(word[3], "-reads"))
-            bring("reads", without(word[3], "-reads"), without(word[1], ".Reads"))
-        else bring("whole", word[3], word[1])
+        else if (index(text, contract) == 1) bring("whole", name, word[1])
+        else if (ends_with(word[1], ".Kinds") && ends_with(name, "_kinds"))
+            bring("kinds", without(name, "_kinds"), without(word[1], ".Kinds"))
+        else if (ends_with(word[1], ".Reads") && ends_with(name, "_reads"))
+            bring("reads", without(name, "_reads"), without(word[1], ".Reads"))
+        else here("a use under a name that is no label, or of none of the accepted forms")
     } else if (text ~ /^use [^ {}]+\.\{[^ {},.]+(, [^ {},.]+)*\}$/) {
         list = text
         sub(/^[^{]*\{/, "", list)
@@ -146,7 +150,7 @@ function read_use(text,    rest, word, count, i, list) {
         count = split(list, word, ", ")
         for (i = 1; i <= count; i++) {
             rest = word[i]
-            if (text ~ /^use (mathlib|Prim)\./) gsub(/_/, "", rest)
+            if (text ~ /^use (mathlib|Prim|Rattle\.std)\./) gsub(/◌/, "", rest)
             if (is_taken(rest)) here("a use that brings " word[i] ", which could change what a theorem says")
             note_name(word[i])
         }
@@ -165,24 +169,24 @@ function bring(kind, label, path) {
 }
 
 function read_says(word,    label) {
-    label = without(word, "-says")
-    if (!is_label(label) || $0 != "abbrev " label "-says : Says " label ".ended (λ w κs a r s. " label ".clauses " \
-        "(w .𝓤) (w .H) (w .𝓖 .A) (w .𝓜 .mem) (w .𝓡 .run) κs a .ensures tt r s)") here("a reading of none of the accepted forms: " word)
+    label = without(word, "_says")
+    if (!is_label(label) || plain($0) != "abbrev " label "_says : Says " label ".ended (λ w κs a r s. (" label ".clauses " \
+        "w.𝓛 w.𝓜.mem w.𝓡.run κs a).ensures tt r s)") here("a reading of none of the accepted forms: " word)
     if ((crate, label) in says) here("a second " word)
     says[crate, label] = 1
-    awaited = label "-says = record { claim = _; exactly = λ w κs a r s. refl }"
+    awaited = label "_says = record { claim = _; exactly = λ w κs a r s. refl }"
 }
 
 function read_theorem(word,    label, said, number, path) {
-    label = without(word, "-determined")
-    said = substr($0, length(word " : ") + 1)
+    label = without(word, "_determined")
+    said = plain(substr($0, length(word " : ") + 1))
     path = ""
     if (match(said, /^Determined [0-9]+ /)) {
         number = substr(said, 1, RLENGTH)
-        if (said == number label "-kinds.ps " label "-kinds.r " label "-reads.Post" &&
+        if (said == number label "_kinds.ps " label "_kinds.r " label "_reads.Post" &&
             (crate, "kinds", label) in brought && brought[crate, "kinds", label] == brought[crate, "reads", label])
             path = brought[crate, "kinds", label]
-    } else if (said == "DeterminedOf " label ".ended (" label "-says .claim)" && (crate, label) in says)
+    } else if (said == "DeterminedOf " label ".ended " label "_says.claim" && (crate, label) in says)
         path = brought[crate, "whole", label]
     if (path == "") here("the theorem " word " is not in an accepted form over the contract of one function of this crate")
     else if (!((crate, path) in public)) here("the theorem " word " is of " path ", which is no public function")

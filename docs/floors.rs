@@ -77,7 +77,9 @@ fn read(text: &str) -> Answer<List> {
         let Some((name, rest)) = line.split_once(':') else {
             return Err(format!("line {} has no colon: {line}", at + 1));
         };
+        // A static library has that word behind its name.
         let name = name.trim();
+        let name = name.strip_suffix(" staticlib").unwrap_or(name).trim_end();
         if name.is_empty() || name.contains(char::is_whitespace) {
             return Err(format!("line {} does not begin with one name: {line}", at + 1));
         }

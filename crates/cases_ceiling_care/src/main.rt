@@ -1,6 +1,6 @@
 // Whoever has to clear at the ceiling is lost: what it prints is compared with what an independent implementation computes.
 #![tactic(auto)]
 
-fn main() {
-    cases_ceiling::lost_clearer();
+fn main(rt: HostRuntime) {
+    cases_ceiling::lost_clearer(rt.stdout());
 }

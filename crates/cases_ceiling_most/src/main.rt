@@ -1,6 +1,6 @@
 // The most that a counter reaches, 33,023: what it prints is compared with what an independent implementation computes.
 #![tactic(auto)]
 
-fn main() {
-    cases_ceiling::most();
+fn main(rt: HostRuntime) {
+    cases_ceiling::most(rt.stdout());
 }

@@ -1,6 +1,6 @@
 // The ceiling of writers: what it prints is compared with what an independent implementation computes.
 #![tactic(auto)]
 
-fn main() {
-    cases_ceiling::ceiling(1);
+fn main(rt: HostRuntime) {
+    cases_ceiling::ceiling(rt.stdout(), 1);
 }

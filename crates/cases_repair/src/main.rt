@@ -1,34 +1,26 @@
-// Plays and repairs with each file that its arguments name, as the repair program would, after a line with the file's name.
+// Plays and repairs with each file that its arguments name, as the repair program would, after a line with the file's name. A file that cannot be opened is named on
+// standard error, and the next one follows.
 #![tactic(auto)]
 
-use libc::STDOUT_FILENO;
+use std::io::Read;
+use std::{env, fs, io};
 
-fn repair_file(i: usize) {
-    let mut path = io::buffer();
-    let length = os::arg(i, &mut path);
-    if os::errno() != 0 {
-        os::fail(b"argument");
-        return;
+fn repair_file(rt: &HostRuntime, path: &str) -> io::Result<()> {
+    println!(rt; "== {path}")?;
+    match fs::open(rt, path) {
+        Ok(file) => {
+            let mut input = Vec::new(rt.alloc());
+            file.take(65537).read_to_end(&mut input)?;
+            program_job::repair_lines(rt.stdout(), &input);
+            Ok(())
+        }
+        Err(why) => eprintln!(rt; "{path}: {why}"),
     }
-    io::write_all(STDOUT_FILENO, b"== ");
-    io::write_all(STDOUT_FILENO, &path[..length]);
-    io::write_all(STDOUT_FILENO, b"\n");
-    let fd = os::open_read(&path[..length]);
-    if fd < 0 {
-        os::fail(&path[..length]);
-        return;
-    }
-    let mut input = [0u8; 65537];
-    let n = io::read_full(fd, &mut input);
-    libc::close(fd);
-    program_job::repair_lines(&input[..n]);
 }
 
-fn main() {
-    let n = os::arg_count();
-    let mut i: usize = 1;
-    while i < n {
-        repair_file(i);
-        i += 1;
+fn main(rt: HostRuntime) -> io::Result<()> {
+    for path in env::args(&rt)?.skip(1) {
+        repair_file(&rt, path.as_str())?;
     }
+    Ok(())
 }

@@ -2,14 +2,16 @@
 // large writes. No contract can say what is written.
 #![tactic(auto)]
 
-use libc::STDOUT_FILENO;
+ghost use Rattle.std.specs.Prelude.{◌≤◌};
 
-// Writes the first n bytes of a text.
-fn flush(text: &[u8], n: usize) {
+use std::io::{Print, Stdout};
+
+// Writes the first n bytes of a text. What cannot be written is passed over: a program plays to its end all the same.
+fn flush(out: Stdout, text: &[u8], n: usize) {
     if text.len() < n {
         return;
     }
-    io::write_all(STDOUT_FILENO, &text[..n]);
+    let _ = out.write_all(&text[..n]);
 }
 
 // Puts a byte at a place of a text, where it fits, and answers the place behind it.
@@ -21,18 +23,28 @@ fn put_byte(text: &mut [u8], at: usize, b: u8) -> usize {
     at + 1
 }
 
+// Puts the decimal digits of a number at the end of twenty bytes, and answers how many bytes stand before them.
+fn decimal(n: u64, digits: &mut [u8; 20]) -> usize
+    ensures { result ≤ 20 }
+{
+    let mut rest = n;
+    for before in (0..20usize).rev() {
+        digits[before] = b'0' + (rest % 10) as u8;
+        rest /= 10;
+        if rest == 0 {
+            return before;
+        }
+    }
+    0
+}
+
 // Puts a number and the byte that stands after it.
 fn put_field(text: &mut [u8], at: usize, n: u64, after: u8) -> usize {
     let mut digits = [0u8; 20];
-    let k = io::decimal(n, &mut digits);
+    let k = decimal(n, &mut digits);
     let mut place = at;
-    let mut i: usize = 0;
-    while i < k {
-        if 20 <= i {
-            return place;
-        }
-        place = put_byte(text, place, digits[i]);
-        i += 1;
+    for digit in &digits[k..] {
+        place = put_byte(text, place, *digit);
     }
     put_byte(text, place, after)
 }
@@ -80,28 +92,26 @@ fn wide(b: u8) -> u64 {
 }
 
 // The lines of the first entries of a report, counted on from `before`. A line has at most 54 bytes.
-pub fn entry_lines(before: u64, report: &[u8], entries: usize) {
-    let mut text = io::large_buffer();
+pub fn entry_lines(out: Stdout, before: u64, report: &[u8], entries: usize) {
+    let mut text = [0u8; 65536];
     let mut place: usize = 0;
-    let mut i: usize = 0;
-    while i < entries {
+    for i in 0..entries {
         if 65536 <= i {
             return;
         }
-        let count = std::num::wrapping_add_u64(before, i as u64 + 1);
+        let count = before.wrapping_add(i as u64 + 1);
         place = entry_line(&mut text, place, count, report, i * 12);
         if 65472 < place {
-            flush(&text, place);
+            flush(out, &text, place);
             place = 0;
         }
-        i += 1;
     }
-    flush(&text, place);
+    flush(out, &text, place);
 }
 
 // The last line: end, ending number, records, bytes taken, verbs.
-pub fn end_line(ending: u64, records: u64, bytes: u64, verbs: u64) {
-    let mut text = io::buffer();
+pub fn end_line(out: Stdout, ending: u64, records: u64, bytes: u64, verbs: u64) {
+    let mut text = [0u8; 4096];
     text[0] = b'e';
     text[1] = b'n';
     text[2] = b'd';
@@ -110,7 +120,7 @@ pub fn end_line(ending: u64, records: u64, bytes: u64, verbs: u64) {
     let played = put_field(&mut text, ended, records, b' ');
     let taken = put_field(&mut text, played, bytes, b' ');
     let sent = put_field(&mut text, taken, verbs, b'\n');
-    flush(&text, sent);
+    flush(out, &text, sent);
 }
 
 // Puts the line of the care at a place of the log: slot, old phase, outcome.
@@ -128,20 +138,18 @@ fn care_line(text: &mut [u8], to: usize, log: &[u8], at: usize) -> usize {
 }
 
 // The lines of the first cares of a log. A line has at most 12 bytes.
-pub fn care_lines(log: &[u8], cares: usize) {
-    let mut text = io::large_buffer();
+pub fn care_lines(out: Stdout, log: &[u8], cares: usize) {
+    let mut text = [0u8; 65536];
     let mut place: usize = 0;
-    let mut i: usize = 0;
-    while i < cares {
+    for i in 0..cares {
         if 65536 <= i {
             return;
         }
         place = care_line(&mut text, place, log, i * 3);
         if 65472 < place {
-            flush(&text, place);
+            flush(out, &text, place);
             place = 0;
         }
-        i += 1;
     }
-    flush(&text, place);
+    flush(out, &text, place);
 }

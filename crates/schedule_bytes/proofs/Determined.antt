@@ -5,11 +5,11 @@ use mathlib.Core.Path.{refl}
 use Rattle.common.specs.Determined.{Determined}
 use Rattle.common.proofs.OnlyOne.{only_one}
 use Rattle.schedule_bytes.proofs.body.Kinds as body-kinds
-use Rattle.schedule_bytes.proofs.body.Reads as body-Reads
+use Rattle.schedule_bytes.proofs.body.Reads as body-reads
 use Rattle.schedule_bytes.proofs.next_at.Kinds as next-at-kinds
 use Rattle.schedule_bytes.proofs.next_at.Reads as next-at-reads
 
-body_determined : Determined 0 body-kinds.ps body-kinds.r body-Reads.Post
+body_determined : Determined 0 body-kinds.ps body-kinds.r body-reads.Post
 body_determined κs a z z' ws ws' p q = (only_one p q, refl)
 
 next_at_determined : Determined 1 next-at-kinds.ps next-at-kinds.r next-at-reads.Post
