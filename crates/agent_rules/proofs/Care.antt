@@ -12,7 +12,7 @@ use Rattle.agent_request.specs.declared.Request.{Request}
 use Rattle.agent_request.specs.declared.Phase.{Phase}
 use Rattle.agent_request.specs.declared.Phase.TheVariants.{Free, Asking, Waiting, Held, Owing, Clearing}
 use Rattle.agent_rules.specs.Life.{ticket_counter, release_counter, step_sends, step_takes}
-use Rattle.agent_rules.specs.Care.{care_sends, care_sends_in, care_takes_in}
+use Rattle.agent_rules.specs.Care.{care_sends_in, care_takes_in}
 use Rattle.agent_rules.specs.CarePromises.{CareNeverAsks, CareOfHeldIsItsRelease, CareOfOthersIsItsStep, CareDrawsNoTicket}
 use Rattle.agent_rules.specs.declared.Verb.{Verb}
 use Rattle.agent_rules.specs.declared.Verb.TheVariants as verb

@@ -9,7 +9,7 @@ use borrow.Author.Tests.{ne_eqb, lt-ltb, ltb-true, ltb-false}
 use lib.Dec.{eqb, ltb}
 use Rattle.common.specs.Choice.{if◌then◌else◌}
 use Rattle.common.proofs.Choices.{either, same_or_not}
-use Rattle.common.proofs.Tables.{number_in, gives_it, it_gives}
+use Rattle.common.proofs.Tables.{gives_it, it_gives}
 use Rattle.word_layout.specs.Word.{split_of}
 use Rattle.word_layout.specs.declared.Counters.{Counters}
 use Rattle.agent_ceiling.specs.Ceiling.{full_at}
@@ -26,7 +26,7 @@ use Rattle.agent_rules.specs.Care.{care_takes, care_takes_in}
 use Rattle.agent_rules.specs.Table.{is_free, is_held, step_lines, StepRefusedExactly, StepRefusedKeeps}
 use Rattle.agent_rules.specs.Table.{release_lines, ReleaseRefusedExactly, ReleaseRefusedKeeps, care_lines, CareRefusedExactly, CareRefusedKeeps}
 use Rattle.agent_rules.specs.declared.Taken.{Taken}
-use Rattle.agent_rules.proofs.Phases.{step_takes_in_law, release_takes_in_law, care_takes_in_law}
+use Rattle.agent_rules.proofs.Phases.{step_takes_in_law, release_takes_in_law}
 
 -- Held, by phase
 abbrev pub held_phase : Phase → Bool

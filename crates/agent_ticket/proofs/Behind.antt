@@ -1,15 +1,13 @@
 -- What the turn test tells whoever is behind so many tickets: no released number is past the ticket, so it is not passed; all are reached
 -- exactly where nothing is missing, and else the differences are what is missing.
 -- Assumes nothing.
-use Prim.Native.Nat.{ℕ, zero, suc, ◌+◌, ◌-◌}
-use mathlib.Core.Path.{◌≡◌, refl, ap}
+use Prim.Native.Nat.{zero, suc, ◌+◌}
+use mathlib.Core.Path.{refl, ap}
 use native.Mathlib.Omega.{arith}
 use borrow.Author.Tests.{le-ltb, eq-eqb, ne_eqb}
-use Rattle.word_layout.specs.declared.Counters.{Counters}
 use Rattle.agent_ticket.specs.Turn.{turn_of}
 use Rattle.agent_ticket.specs.Promises.{ReaderWaitsForWriters, WriterWaitsForBoth}
-use Rattle.agent_ticket.specs.declared.Ticket.{Ticket}
-use Rattle.agent_ticket.specs.declared.Turn.TheVariants.{Granted, Ahead}
+use Rattle.agent_ticket.specs.declared.Turn.TheVariants.{Ahead}
 
 pub reader_waits_for_writers : ReaderWaitsForWriters
 unfolding turn_of

@@ -3,15 +3,15 @@
 -- Assumes nothing.
 use Prim.Native.Nat.{ℕ, ◌<◌}
 use mathlib.Core.Path.{◌≡◌, refl, ap, sym, ◌∙◌}
-use mathlib.Core.Bool.{Bool, true, false, not, ◌&&◌}
+use mathlib.Core.Bool.{Bool, true, false, not}
 use mathlib.Core.List.{List}
 use native.Mathlib.Omega.{arith}
-use borrow.Author.Tests.{leb-true, leb-false, lt-ltb, le-ltb, lt-leb, le-leb}
+use borrow.Author.Tests.{leb-true, leb-false, le-ltb}
 use lib.Dec.{eqb, ltb, leb}
 use lib.ListN.{length, get_or, set}
 use lib.Seq.{set-get_or, get_or-set_same}
 use Rattle.common.specs.Choice.{if◌then◌else◌}
-use Rattle.common.proofs.Choices.{either, either_by}
+use Rattle.common.proofs.Choices.{either}
 use Rattle.agent_request.specs.Request.{phase_of, used_phase, in_use, free_request}
 use Rattle.agent_request.specs.declared.Request.{Request}
 use Rattle.agent_request.specs.declared.Phase.{Phase}
@@ -31,14 +31,14 @@ use Rattle.board_rules.specs.declared.Answer.TheVariants.{Refused, Told}
 use Rattle.board_call.specs.declared.Call.TheVariants.{Open, Step, Release, Show}
 use Rattle.board_call.specs.declared.AnyCall.{AnyCall}
 use Rattle.board_call.specs.declared.AnyCall.TheVariants.{Base, OpenAs, Fence, Care}
-use Rattle.board_rules.specs.Board.{State, Done, slot_at, refused, opened, stepped, released, shown}
+use Rattle.board_rules.specs.Board.{Done, slot_at, refused, opened, stepped, released, shown}
 use Rattle.board_rules.specs.Care.{cared}
-use Rattle.board_rules.specs.Visit.{aim_of, visit_of, show_visit, stored}
+use Rattle.board_rules.specs.Visit.{aim_of, show_visit, stored}
 use Rattle.board_rules.proofs.Visits.{visit_is_played, aimed_use}
 use Rattle.board_rules.proofs.Words.{open_words}
 use Rattle.board_nodes.specs.Site.{Site, SiteDone, inner, node_at, fenced_at, shut_at, refused_at, kept_node, around, opens_shut, used_shut}
-use Rattle.board_nodes.specs.Site.{opened_by, stepped_at, released_at, cared_at, fenced_by, shown_at, played_at}
-use Rattle.board_nodes.specs.Visit.{watched_node, opening_node, fence_after, gate_of, care_visit, unasked_visit, behind_gate, any_visit, stored_at}
+use Rattle.board_nodes.specs.Site.{opened_by, stepped_at, released_at, cared_at, fenced_by, shown_at}
+use Rattle.board_nodes.specs.Visit.{watched_node, opening_node, fence_after, gate_of, care_visit, unasked_visit, any_visit, stored_at}
 use Rattle.board_nodes.specs.Promises.{AnyVisitIsPlayed}
 
 -- A care as a visit, by phase: what is sent and taken is the step's or the release's, and the tests are the same.

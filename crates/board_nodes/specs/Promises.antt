@@ -1,5 +1,5 @@
 -- What is promised of the calls on a board with nodes and fences. Statements only: proofs/ has why each holds.
-use Rattle.std.specs.Prelude.{ℕ, ◌<◌, ◌≡◌, true, false, length}
+use Rattle.std.specs.Prelude.{ℕ, ◌≡◌, true, false, length}
 use Rattle.agent_request.specs.Request.{in_use}
 use Rattle.board_slots.specs.Slots.{SLOTS}
 use Rattle.board_slots.specs.Map.{map_of}

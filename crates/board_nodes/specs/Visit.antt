@@ -1,6 +1,6 @@
 -- A mirror of `Site`: any call as a visit of one slot, with the one bit of its gate: whether the node that it looks at is fenced. Nothing here needs
 -- belief: `AnyVisitIsPlayed` (Promises) says that it is the same as playing the call.
-use Rattle.std.specs.Prelude.{ℕ, Bool, true, false, not, ◌||◌, List, eqb, get_or, set}
+use Rattle.std.specs.Prelude.{ℕ, Bool, true, not, List, eqb, get_or, set}
 use Rattle.common.specs.Choice.{if◌then◌else◌}
 use Rattle.agent_request.specs.Request.{in_use, free_request}
 use Rattle.agent_request.specs.declared.Request.{Request}

@@ -2,18 +2,17 @@
 -- care's result are those, and the tests before it are the same.
 -- Assumes nothing.
 use Prim.Native.Nat.{ℕ}
-use mathlib.Core.Path.{◌≡◌, refl, ap, sym, ◌∙◌}
+use mathlib.Core.Path.{◌≡◌, refl, ap, ◌∙◌}
 use mathlib.Core.Bool.{Bool, true, false, not}
 use mathlib.Core.List.{List}
 use borrow.Author.Tests.{lt-leb}
 use lib.Dec.{eqb, leb}
-use lib.ListN.{get_or, set}
+use lib.ListN.{set}
 use lib.Seq.{set-get_or}
 use Rattle.common.specs.Choice.{if◌then◌else◌}
 use Rattle.agent_request.specs.Request.{phase_of, used_phase, in_use, free_request}
-use Rattle.agent_request.specs.declared.Request.{Request}
 use Rattle.agent_request.specs.declared.Phase.{Phase}
-use Rattle.agent_request.specs.declared.Phase.TheVariants.{Asking, Waiting, Held, Owing, Clearing}
+use Rattle.agent_request.specs.declared.Phase.TheVariants.{Waiting, Owing, Clearing}
 use Rattle.agent_rules.specs.Life.{left_by, step_sends, step_sends_in, step_takes, release_sends, release_sends_in, release_takes}
 use Rattle.agent_rules.specs.Care.{care_sends, care_sends_in, care_takes, care_takes_in}
 use Rattle.agent_rules.specs.declared.Verb.{Verb}

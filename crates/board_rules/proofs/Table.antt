@@ -4,7 +4,6 @@
 use Prim.Native.Nat.{ℕ, zero, suc, ◌+◌, ◌%◌, ◌<◌, ◌≤◌}
 use mathlib.Core.Path.{◌≡◌, refl, ap, sym, ◌∙◌}
 use mathlib.Core.Bool.{Bool, true, false, not, ◌&&◌, ◌||◌, and-false}
-use mathlib.Core.Logic.{◌↔◌}
 use mathlib.Core.List.{List}
 use native.Mathlib.Omega.{arith}
 use native.Mathlib.Nat.{zero-add}
@@ -12,7 +11,6 @@ use borrow.Author.Tests.{ltb-true, ltb-false, lt-ltb, le-ltb, le-leb, lt-leb, eq
 use lib.Dec.{eqb, ltb, leb}
 use lib.ListN.{length, get_or}
 use Rattle.common.specs.Choice.{if◌then◌else◌}
-use Rattle.common.specs.Table.{line}
 use Rattle.common.proofs.Choices.{either, either_by}
 use Rattle.common.proofs.Tables.{number_in, Real, gives_it, it_gives, none_applies, applies_none}
 use Rattle.word_layout.specs.Word.{split_of}
@@ -33,19 +31,18 @@ use Rattle.agent_rules.specs.declared.Answer.{Answer as Tells}
 use Rattle.agent_rules.specs.declared.Answer.TheVariants as tells
 use Rattle.agent_rules.specs.declared.Verb.{Verb}
 use Rattle.agent_rules.specs.declared.Taken.{Taken}
-use Rattle.board_slots.specs.Slots.{SLOTS, lowest_free, used_slots}
+use Rattle.board_slots.specs.Slots.{SLOTS, lowest_free}
 use Rattle.board_slots.proofs.Used.{none_free_is_all_used}
 use Rattle.board_call.specs.declared.Call.{Call}
 use Rattle.board_call.specs.declared.Call.TheVariants.{Open, Step, Release, Show}
 use Rattle.board_rules.specs.Answers.{said_with, said_of, named_slot, sends_verb, verbs_of}
 use Rattle.board_rules.specs.Records.{RECORDS, is_record, is_nothing, refusal_of}
-use Rattle.board_rules.specs.declared.Said.{Said}
 use Rattle.board_rules.specs.declared.Answer.{Answer}
 use Rattle.board_rules.specs.declared.Answer.TheVariants.{Refused, Begun, Opened, Told, Shown, Fenced}
 use Rattle.board_rules.specs.Board.{State, Done, slot_at, refused, begun, opened, sent, stepped, released, shown, shown_of, played}
 use Rattle.board_rules.specs.Table.{no_record, lines_of, lines_of_begin, said_to, RefusedExactly, AcceptedExactly, BeginRefusedExactly, BeginAcceptedExactly, BegunExactly}
-use Rattle.board_rules.specs.Table.{outcome_of, NothingElseIsSaid, slot_said, in_range, NamesItsSlot, ValueIsSaid, VerbsAreCounted, ShowSaysTheWord, outcome_named, answer_named, AnswerIsItsNumbers}
-use Rattle.board_rules.proofs.Told.{apart, told_number, Quiet, all_quiet, goes_out}
+use Rattle.board_rules.specs.Table.{outcome_of, NothingElseIsSaid, slot_said, in_range, NamesItsSlot, ValueIsSaid, VerbsAreCounted, ShowSaysTheWord, answer_named, AnswerIsItsNumbers}
+use Rattle.board_rules.proofs.Told.{apart, told_number, all_quiet, goes_out}
 
 -- the number that an answer refuses with, 0 where it does not
 abbrev refusal_in : Answer → ℕ

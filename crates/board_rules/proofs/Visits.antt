@@ -23,12 +23,12 @@ use Rattle.board_call.specs.declared.Call.{Call}
 use Rattle.board_call.specs.declared.Call.TheVariants.{Open, Step, Release, Show}
 use Rattle.board_rules.specs.Records.{is_record, refusal_of}
 use Rattle.board_rules.specs.Sent.{visited, sent_visit}
-use Rattle.board_rules.specs.Visit.{aim_of, within_board, open_visit, show_visit, named_visit, visit_of}
+use Rattle.board_rules.specs.Visit.{aim_of, within_board, open_visit, show_visit, named_visit}
 use Rattle.board_rules.specs.declared.Answer.{Answer}
 use Rattle.board_rules.specs.declared.Answer.TheVariants.{Refused}
 use Rattle.board_rules.specs.Visit.{stored}
 use Rattle.board_rules.specs.Promises.{VisitIsPlayed}
-use Rattle.board_rules.specs.Board.{State, refused, sent, opened, stepped, released, shown, slot_at, played}
+use Rattle.board_rules.specs.Board.{State, refused, sent, opened, stepped, released, shown, slot_at}
 
 -- a refused visit writes back what stood there
 back : (s : State) (i : ℕ) (a : Answer) → record { slots = s.slots; words = s.words; answer = a } ≡ stored s i (visited (slot_at s i) s.words a)

@@ -8,7 +8,7 @@ use mathlib.Core.Logic.{◌⊎◌, inl, inr, ⊎_elim}
 use mathlib.Core.List.{List, []}
 use native.Mathlib.Nat.{eq-or-lt_of_le, zero-add, one-mul, zero-mul, lt_of_lt_of_le}
 use native.Mathlib.Omega.{arith}
-use borrow.Author.Tests.{eq-eqb, ne_eqb, eqb-true, eqb-false, ltb-true, ltb-false}
+use borrow.Author.Tests.{eq-eqb, ne_eqb, ltb-true, ltb-false}
 use lib.Count.{count_trailing_zeros, ones, trailing_of_zero}
 use lib.Dec.{eqb, ltb}
 use lib.Pow.{pow_mono}

@@ -8,7 +8,6 @@ use mathlib.Core.List.{List}
 use native.Mathlib.Omega.{arith}
 use native.Mathlib.Nat.{add-zero, sub-zero}
 use lib.ListN.{length, length-append}
-use Rattle.agent_request.specs.declared.Request.{Request}
 use Rattle.board_slots.specs.declared.Board.{Board}
 use Rattle.board_nodes.specs.Site.{Site}
 use Rattle.board_nodes.specs.Leaves.{lent_to}

@@ -1,13 +1,13 @@
 -- What is kept while a pass goes on: the whole pass is what has been done so far and the pass from this slot on. A slot that is not lost is gone by;
 -- a lost one is cared for, which is its visit (`care_leaves`).
 -- Assumes nothing.
-use Prim.Native.Nat.{ℕ, zero, suc, ◌+◌, ◌-◌, ◌<◌, ◌≤◌}
+use Prim.Native.Nat.{ℕ, suc, ◌+◌, ◌-◌, ◌<◌, ◌≤◌}
 use mathlib.Core.Path.{◌≡◌, refl, ap, sym, ◌∙◌}
 use mathlib.Core.Bool.{Bool, true, false, ◌||◌, or-false}
 use mathlib.Core.List.{List, [], ◌∷◌}
 use native.Mathlib.Omega.{arith}
 use native.Mathlib.Nat.{add-zero}
-use lib.ListN.{length, get_or, set, length-set}
+use lib.ListN.{length, set, length-set}
 use lib.Seq.{length-sets}
 use Rattle.common.proofs.Choices.{either}
 use Rattle.agent_request.specs.declared.Request.{Request}

@@ -1,7 +1,6 @@
 -- Each public function of `schedule_writer`, and why its contract determines it: the contract equates the outcome with a definition, and two
 -- things that equal a third are equal (`only_one`, the single law). A function that is missing here is a defect.
 -- Assumes nothing.
-use mathlib.Core.Path.{refl}
 use Rattle.common.specs.Determined.{Determined}
 use Rattle.common.proofs.OnlyOne.{only_one}
 use Rattle.schedule_writer.proofs.put.Kinds as put-kinds

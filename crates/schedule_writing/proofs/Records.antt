@@ -1,24 +1,23 @@
 -- Why a record is read as the call that wrote it, and written as the bytes that were read: a record stands at a place exactly where the bytes
 -- from there on are its kind, its fields and then whatever follows (`stands`, `stood`), and kind and fields are the call.
 -- Assumes nothing.
-use Prim.Native.Nat.{ℕ, zero, suc, ◌+◌, ◌-◌, ◌<◌, ◌≤◌, ◌^◌}
+use Prim.Native.Nat.{ℕ, suc, ◌+◌, ◌-◌, ◌<◌, ◌≤◌}
 use mathlib.Core.Path.{◌≡◌, refl, sym, ap, ◌∙◌}
 use mathlib.Core.Bool.{Bool, true, false}
 use mathlib.Core.Logic.{◌⊎◌, inl, inr}
-use mathlib.Core.List.{List, [], ◌∷◌, ◌++◌, append_assoc, append-nil}
+use mathlib.Core.List.{List, [], ◌∷◌, ◌++◌, append_assoc}
 use native.Mathlib.Nat.{add-zero}
 use native.Mathlib.Omega.{arith}
-use borrow.Author.Tests.{leb-false, ltb-true, ltb-false, lt-leb, le-ltb, ne_eqb, eqb-true, eqb-false}
+use borrow.Author.Tests.{leb-false, ltb-true, ltb-false, lt-leb, le-ltb, ne_eqb, eqb-false}
 use lib.Dec.{eqb, ltb, leb}
 use lib.ListN.{length, get_or, take, drop, length-append, length-drop, take-append-drop}
-use lib.Seq.{sets, sets-eq, length-sets, get_or-drop, drop-drop, drop_at, take_at, length-take-le, drop-cons}
+use lib.Seq.{sets, sets-eq, get_or-drop, drop-drop, drop_at, take_at, length-take-le, drop-cons}
 use Rattle.common.specs.Choice.{if◌then◌else◌}
 use Rattle.board_call.specs.declared.AnyCall.{AnyCall}
-use Rattle.schedule_kinds.specs.Kinds.{widths_of, body_of, total, numbers_of, parts, parts_from, parts_of, call_of}
+use Rattle.schedule_kinds.specs.Kinds.{widths_of, body_of, numbers_of, parts_from, parts_of, call_of}
 use Rattle.schedule_kinds.specs.declared.Parts.{Parts}
 use Rattle.schedule_kinds.proofs.EachKind.{parts_are_the_call, three}
 use Rattle.schedule_bytes.specs.Schedule.{byte_at, numbers_at, call_at, next_of}
-use Rattle.schedule_bytes.specs.declared.Next.{Next}
 use Rattle.schedule_bytes.specs.declared.Next.TheVariants.{Record, End, Unknown, Cut}
 use Rattle.schedule_writing.specs.Writing.{fields_of, record_of, length_of, too_large, Writing, refused, writing_of}
 use Rattle.schedule_writing.proofs.Numbers.{fronts, numbers_front, length_fields, length_fronts, fronts_fields, fields_fronts, fronts_fit, none_in_none, AllBytes, bytes_drop}

@@ -5,30 +5,29 @@
 use Prim.Native.Nat.{ℕ, zero, suc, ◌+◌, ◌<◌, ◌≤◌, ◌^◌}
 use mathlib.Core.Path.{◌≡◌, refl, sym, ap, ◌∙◌}
 use mathlib.Core.Bool.{Bool, true, false}
-use mathlib.Core.Logic.{◌⊎◌, inl, inr, ⊎_elim}
+use mathlib.Core.Logic.{⊎_elim}
 use mathlib.Core.List.{List, [], ◌∷◌, ◌++◌}
 use native.Mathlib.Omega.{arith}
 use borrow.Author.Tests.{leb-true, leb-false, lt-leb}
 use lib.Dec.{leb}
-use lib.ListN.{length, get_or, take, drop, get_or-eq_default}
-use lib.Seq.{sets, length-sets, get_or-take, get_or-drop}
-use Rattle.common.specs.Choice.{if◌then◌else◌}
+use lib.ListN.{length, get_or, drop, get_or-eq_default}
+use lib.Seq.{sets, length-sets}
 use Rattle.board_call.specs.declared.AnyCall.{AnyCall}
 use Rattle.schedule_kinds.specs.Kinds.{widths_of, body_of, numbers_of, parts_of, call_of}
 use Rattle.schedule_kinds.specs.declared.Parts.{Parts}
 use Rattle.schedule_kinds.proofs.EachKind.{call_is_its_parts, call_is_known, parts_are_the_call, three}
-use Rattle.schedule_bytes.specs.Schedule.{byte_at, next_of}
+use Rattle.schedule_bytes.specs.Schedule.{next_of}
 use Rattle.schedule_bytes.specs.declared.Next as reading
 use Rattle.schedule_bytes.specs.declared.Next.TheVariants.{Record, End, Unknown, Cut}
 use Rattle.schedule_writing.specs.Writing.{record_of, length_of, too_large, Writing, refused, writing_of, became_of, written_of, buffer_of, number_of}
-use Rattle.schedule_writing.specs.Boundary.{placed_of, standing_of, standing_at, stands_as, none_stands}
+use Rattle.schedule_writing.specs.Boundary.{placed_of, standing_of, stands_as}
 use Rattle.schedule_writing.specs.declared.Written.{Written}
 use Rattle.schedule_writing.specs.declared.Written.TheVariants.{Next, TooLarge, NoRoom}
 use Rattle.schedule_writing.specs.declared.Standing.{Standing}
 use Rattle.schedule_writing.specs.Promises.{Bytes, WrittenIsRead, ReadIsWritten, ReadIsItsRecord, FitsIts, TooLargeExactly, NoRoomExactly, WrittenExactly, RefusedLeavesAll, OutsideStays, WrittenLeavesTheRest, NumbersAreRead, NumbersAreWritten, RefusedStays}
 use Rattle.schedule_writing.proofs.Numbers.{AllBytes, first_fits}
 use Rattle.schedule_writing.proofs.Untouched.{before_it, behind_it}
-use Rattle.schedule_writing.proofs.Records.{Stood, stood, stands, unused, length_record, with_record, from_there, up_to, stays, done, Fits, Way, way, known_or_not}
+use Rattle.schedule_writing.proofs.Records.{Stood, stood, stands, unused, length_record, from_there, stays, done, Fits, way, known_or_not}
 
 -- past the end 0 is read, which is a byte
 pub all_bytes : (s : List ℕ) → Bytes s → AllBytes s

@@ -2,26 +2,24 @@
 -- record before it is left, and it is read as its call (`led`). A schedule that reads to its end: at each place its bytes up to there have
 -- been written, the record that stands there writes its own, and at the end all are (`writes`).
 -- Assumes nothing.
-use Prim.Native.Nat.{ℕ, zero, suc, ◌+◌, ◌<◌, ◌≤◌}
+use Prim.Native.Nat.{ℕ, zero, suc, ◌+◌, ◌≤◌}
 use mathlib.Core.Path.{◌≡◌, refl, sym, ap, ◌∙◌}
 use mathlib.Core.List.{List, [], ◌∷◌, ◌++◌, append_assoc}
-use native.Mathlib.Nat.{le_refl}
 use native.Mathlib.Omega.{arith}
-use borrow.Author.Tests.{le-leb}
 use lib.ListN.{length, take, drop, length-append, take-append-drop}
 use lib.Seq.{sets, length-sets, take-length, take_at, drop_at, length-take-le}
 use Rattle.board_call.specs.declared.AnyCall.{AnyCall}
-use Rattle.schedule_kinds.specs.Kinds.{body_of, parts_of, call_of}
+use Rattle.schedule_kinds.specs.Kinds.{parts_of}
 use Rattle.schedule_kinds.proofs.EachKind.{call_is_its_parts, call_is_known}
 use Rattle.schedule_bytes.specs.Schedule.{next_of, calls_from, call_then, place_behind, place_then}
 use Rattle.schedule_bytes.specs.declared.Next as reading
 use Rattle.schedule_bytes.specs.declared.Next.TheVariants.{Record, End, Unknown, Cut}
 use Rattle.schedule_bytes.proofs.Stands.{end_stands_exactly}
-use Rattle.schedule_writing.specs.Writing.{record_of, length_of, Writing, became_of, written_of, buffer_of}
+use Rattle.schedule_writing.specs.Writing.{record_of, length_of, Writing, became_of, buffer_of}
 use Rattle.schedule_writing.specs.declared.Written.TheVariants.{Next}
-use Rattle.schedule_writing.specs.Promises.{Leads, ReadAs, ScheduleIsRead, ScheduleIsWritten}
+use Rattle.schedule_writing.specs.Promises.{Leads, ScheduleIsRead, ScheduleIsWritten}
 use Rattle.schedule_writing.proofs.Numbers.{AllBytes}
-use Rattle.schedule_writing.proofs.Records.{Stood, stood, stands, length_record, up_to, done}
+use Rattle.schedule_writing.proofs.Records.{stood, stands, length_record, up_to}
 use Rattle.schedule_writing.proofs.RoundTrips.{all_bytes, accepted, accepts}
 
 -- ---- written, then read

@@ -1,8 +1,7 @@
 -- What is promised of writing a schedule and reading it. Statements only: proofs/ has why each holds.
-use Rattle.std.specs.Prelude.{ℕ, ◌+◌, ◌<◌, ◌≤◌, ◌^◌, ◌≡◌, Bool, true, false, ◌↔◌, List, [], ◌∷◌, ◌++◌, length, get_or, drop}
-use Rattle.std.proofs.lemmas.List.Edits.{sets}
+use Rattle.std.specs.Prelude.{ℕ, ◌+◌, ◌<◌, ◌≤◌, ◌^◌, ◌≡◌, ◌↔◌, List, [], ◌∷◌, ◌++◌, length, get_or, drop}
 use Rattle.board_call.specs.declared.AnyCall.{AnyCall}
-use Rattle.schedule_kinds.specs.Kinds.{widths_of, body_of, numbers_of, parts, parts_of}
+use Rattle.schedule_kinds.specs.Kinds.{widths_of, numbers_of, parts_of}
 use Rattle.schedule_kinds.specs.declared.Parts.{Parts}
 use Rattle.schedule_bytes.specs.Schedule.{byte_at, next_of, calls_from, place_behind}
 use Rattle.schedule_bytes.specs.declared.Next.TheVariants.{Record, End}

@@ -22,8 +22,7 @@ overflow_add-bits c =
 
 pub loop-j-preserved : goal.loop-j-preserved
 loop-j-preserved c =
-    let long : length c.args.b.slots ≡ 256 = search rules in
-    (
+    let long : length c.args.b.slots ≡ 256 = search rules in (
       omega arith,
       collected c.args.b.slots c.args.from c.loop-j.j c.loop-j.bits c.bit.result c.loop-j-test.true c.loop-j.invariant.0 (omega arith) c.loop-j.invariant.1 c.bit.ensures,
     )

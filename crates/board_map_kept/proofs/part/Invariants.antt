@@ -1,6 +1,6 @@
 -- From the last slot down it collects one bit for each: what is collected are the bits of the slots from j on.
 -- Assumes nothing.
-use Rattle.std.specs.Prelude.{◌≡◌, ◌≤◌, length, take, drop}
+use Rattle.std.specs.Prelude.{◌≡◌, ◌≤◌, take, drop}
 use Rattle.board_slots.specs.Map.{bits_of}
 use Rattle.board_map_kept.proofs.part.Given as goal
 

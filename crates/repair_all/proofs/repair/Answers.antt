@@ -16,7 +16,7 @@ overflow_add-cares c =
     let p = c.pass-p in
     let bound = bounds c.args.b c.args.words.now c.args.log.now l.cur l.words l.log l.cares l.passes l.invariant c.loop-passes-test.true in
     let few = few_more c.args.b c.args.words.now c.args.log.now l.cur l.words l.log l.cares l.passes l.invariant c.loop-passes-test.true p.result
-        p.new.words p.new.log p.ensures in
+    p.new.words p.new.log p.ensures in
     let small : length c.args.log.now < 2 ^ 64 = search rules in omega (arith, bound, few, small)
 
 pub returns-then-not-p : goal.returns-then-not-p

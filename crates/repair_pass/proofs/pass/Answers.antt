@@ -1,6 +1,6 @@
 -- A slot is gone by (`goes_by`) or cared for (`cares_one`), and behind the last one nothing is left (`ends`).
 -- Assumes nothing.
-use Rattle.std.proofs.Common.{refl, sym, ◌∙◌, rules}
+use Rattle.std.proofs.Common.{refl, sym}
 use Rattle.repair_pass.proofs.Passing.{goes_by, cares_one, ends}
 use Rattle.repair_pass.proofs.pass.Goals as goal
 

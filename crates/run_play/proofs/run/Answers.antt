@@ -5,7 +5,6 @@ use Rattle.std.proofs.Common.{◌≡◌, ◌∙◌, ℕ, ◌-◌, ◌*◌, ◌<�
 use borrow.Author.Rules.{elem_Fits}
 use mir.Syntax.{w8}
 use Rattle.board_call.specs.declared.AnyCall.{AnyCall}
-use Rattle.board_rules.proofs.Visits.{aim_small}
 use Rattle.board_nodes.specs.Site.{Site}
 use Rattle.board_nodes.specs.Leaves.{lent_to}
 use Rattle.schedule_bytes.specs.Schedule.{next_of}
@@ -37,9 +36,9 @@ returns-then-stop-ne0 c =
     let l = c.loop-map in
     record {
       ran =
-        halts_here c.args.b c.args.words.now c.args.s.now c.args.at c.args.allowance c.args.report.now l.cur l.words l.report l.map.parts l.place l.records l.verbs l.invariant
-        c.halted-stop.result c.came_to.result
-        (stops _ _ c.args.s.now l.place l.records c.args.allowance l.report c.next_at-next.ensures c.halted-stop.ensures) c.if-stop-ne0.true c.came_to.ensures;
+          halts_here c.args.b c.args.words.now c.args.s.now c.args.at c.args.allowance c.args.report.now l.cur l.words l.report l.map.parts l.place l.records l.verbs l.invariant
+          c.halted-stop.result c.came_to.result
+          (stops _ _ c.args.s.now l.place l.records c.args.allowance l.report c.next_at-next.ensures c.halted-stop.ensures) c.if-stop-ne0.true c.came_to.ensures;
     }
 
 pub returns-in_default : goal.returns-in_default
@@ -47,11 +46,11 @@ returns-in_default c =
     let l = c.loop-map in
     record {
       ran =
-        leaves_here c.args.b c.args.words.now c.args.s.now c.args.at c.args.allowance c.args.report.now l.cur l.words l.report l.map.parts l.place l.records l.verbs l.invariant
-        c.left_by.result c.came_to-in_default.result
-        (λ o next e. c.in_default.not-Record o next (c.next_at-next.ensures ∙ e))
-        (stops _ _ c.args.s.now l.place l.records c.args.allowance l.report c.next_at-next.ensures c.halted-stop.ensures ∙ c.if-stop-ne0.false)
-        (c.left_by.ensures ∙ ap leaves_of c.next_at-next.ensures) c.came_to-in_default.ensures;
+          leaves_here c.args.b c.args.words.now c.args.s.now c.args.at c.args.allowance c.args.report.now l.cur l.words l.report l.map.parts l.place l.records l.verbs l.invariant
+          c.left_by.result c.came_to-in_default.result
+          (λ o next e. c.in_default.not-Record o next (c.next_at-next.ensures ∙ e))
+          (stops _ _ c.args.s.now l.place l.records c.args.allowance l.report c.next_at-next.ensures c.halted-stop.ensures ∙ c.if-stop-ne0.false)
+          (c.left_by.ensures ∙ ap leaves_of c.next_at-next.ensures) c.came_to-in_default.ensures;
     }
 
 -- what is known where a record is played

@@ -1,6 +1,6 @@
 -- A turn stores the lowest byte and leaves the others; when none is left all are stored.
 -- Assumes nothing.
-use Rattle.std.proofs.Common.{◌≡◌, ◌%◌, ◌∙◌, sym, arith, length-set}
+use Rattle.std.proofs.Common.{◌%◌, ◌∙◌, sym, arith, length-set}
 use Rattle.schedule_writer.proofs.Turns.{byte_stored, none_stored}
 use Rattle.schedule_writer.proofs.store.Goals as goal
 
