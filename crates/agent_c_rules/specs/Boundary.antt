@@ -1,6 +1,6 @@
 -- What a caller in C gets of the agent: its verbs and its answers as plain numbers.
 use Rattle.std.specs.Prelude.{ℕ, ◌<◌, ◌≡◌, ltb}
-use Rattle.common.specs.Choice.{if◌then◌else◌}
+use Rattle.common.specs.Choice.{when◌then◌else◌}
 use Rattle.agent_request.specs.Request.{in_use, opened_request}
 use Rattle.agent_request.specs.declared.Request.{Request}
 use Rattle.agent_rules.specs.Answers.{numbers_of}
@@ -35,8 +35,8 @@ refused_by n q = record { request = q; number = n }
 -- Decision 33: a request that is to ask: mode 0 or 1, else 3; not in use, else 5; then it is the opened one, and 0.
 abbrev pub asked_of : Request → ℕ → ℕ → Asked
 asked_of q r m =
-    if ltb 1 m then refused_by 3 q else
-    if in_use q then refused_by 5 q else
+    when ltb 1 m then refused_by 3 q else
+    when in_use q then refused_by 5 q else
     record { request = opened_request r m; number = 0 }
 
 -- Demand D1.3: an ask that is refused leaves the request.

@@ -1,6 +1,6 @@
 -- The ceiling: when a request is turned away, and which ticket brings a clearing word.
 use Rattle.std.specs.Prelude.{ℕ, Bool, ◌||◌}
-use Rattle.common.specs.Choice.{if◌then◌else◌}
+use Rattle.common.specs.Choice.{when◌then◌else◌}
 use Rattle.word_layout.specs.Word.{join_of}
 use Rattle.word_counter.specs.Order.{reaches_x, equals_x, reaches_s, equals_s}
 use Rattle.word_counter.specs.declared.Exclusive.{Exclusive}
@@ -29,5 +29,5 @@ rest_of x s = join_of (record { nx = x; ns = s; mx = x; ms = s })
 -- Rule 3.4: A reader with p.mS = 32,767 gets the clearing word {p.mX, CEIL, p.mX, CEIL}; a writer with p.mX = 32,767 gets
 -- {CEIL, p.mS, CEIL, p.mS}; any other request gets none.
 unfoldable pub clearing_word_of : Mode → Counters → ℕ
-clearing_word_of Reader p = if equals_s p.ms (record { 0 = LAST }) then rest_of p.mx (record { 0 = CEIL }) else NONE
-clearing_word_of Writer p = if equals_x p.mx (record { 0 = LAST }) then rest_of (record { 0 = CEIL }) p.ms else NONE
+clearing_word_of Reader p = when equals_s p.ms (record { 0 = LAST }) then rest_of p.mx (record { 0 = CEIL }) else NONE
+clearing_word_of Writer p = when equals_x p.mx (record { 0 = LAST }) then rest_of (record { 0 = CEIL }) p.ms else NONE

@@ -1,6 +1,6 @@
 -- What a request keeps, and how its kept numbers are read.
 use Rattle.std.specs.Prelude.{ℕ, Bool, true, false, eqb}
-use Rattle.common.specs.Choice.{if◌then◌else◌}
+use Rattle.common.specs.Choice.{when◌then◌else◌}
 use Rattle.agent_request.specs.declared.Request.{Request}
 use Rattle.agent_ticket.specs.declared.Ticket.{Ticket}
 use Rattle.agent_request.specs.declared.Phase.{Phase}
@@ -20,15 +20,15 @@ phase_number Clearing = 5
 -- Rule 2.3: any other number counts as free.
 abbrev pub phase_of : ℕ → Phase
 phase_of n =
-    if eqb n (phase_number Asking) then Asking else
-    if eqb n (phase_number Waiting) then Waiting else
-    if eqb n (phase_number Held) then Held else
-    if eqb n (phase_number Owing) then Owing else
-    if eqb n (phase_number Clearing) then Clearing else Free
+    when eqb n (phase_number Asking) then Asking else
+    when eqb n (phase_number Waiting) then Waiting else
+    when eqb n (phase_number Held) then Held else
+    when eqb n (phase_number Owing) then Owing else
+    when eqb n (phase_number Clearing) then Clearing else Free
 
 -- Rule 2.2: Reader means shared, mode 0; writer exclusive, mode 1. A kept mode other than 0 counts as 1.
 abbrev pub mode_of : ℕ → Mode
-mode_of n = if eqb n 0 then Reader else Writer
+mode_of n = when eqb n 0 then Reader else Writer
 
 -- Rule 2.4: A request is in use in every phase but free.
 abbrev pub used_phase : Phase → Bool

@@ -7,7 +7,7 @@ use mathlib.Core.Logic.{◌⊎◌, inl, inr, ⊎_elim}
 use native.Mathlib.Omega.{arith}
 use borrow.Author.Tests.{ne_eqb, lt-ltb, ltb-true, ltb-false}
 use lib.Dec.{eqb, ltb}
-use Rattle.common.specs.Choice.{if◌then◌else◌}
+use Rattle.common.specs.Choice.{when◌then◌else◌}
 use Rattle.common.proofs.Choices.{either, same_or_not}
 use Rattle.common.proofs.Tables.{gives_it, it_gives}
 use Rattle.word_layout.specs.Word.{split_of}
@@ -110,7 +110,7 @@ unfolding asked
 asked_accepted q p = either Accepted (full_at p) (record { number = refl }) (waited_accepted (ticketed q p) p)
 
 -- by phase, the number that a step, a release and a care are told
-pub step_number : (p : Phase) (q : Request) (v : ℕ) → (numbers_of (step_takes_in p q v).answer).number ≡ (if not (used_phase p) || held_phase p then 5 else 0)
+pub step_number : (p : Phase) (q : Request) (v : ℕ) → (numbers_of (step_takes_in p q v).answer).number ≡ (when not (used_phase p) || held_phase p then 5 else 0)
 step_number Free q v = refl
 step_number Asking q v = (asked_accepted q (split_of v)).number
 step_number Waiting q v = (waited_accepted q (split_of v)).number
@@ -118,7 +118,7 @@ step_number Held q v = refl
 step_number Owing q v = refl
 step_number Clearing q v = (either Accepted (eqb v q.clearing) (record { number = refl }) (record { number = refl })).number
 
-pub release_number : (p : Phase) (q : Request) → (numbers_of (release_takes_in p q).answer).number ≡ (if not (held_phase p) then 5 else 0)
+pub release_number : (p : Phase) (q : Request) → (numbers_of (release_takes_in p q).answer).number ≡ (when not (held_phase p) then 5 else 0)
 release_number Free q = refl
 release_number Asking q = refl
 release_number Waiting q = refl
@@ -129,7 +129,7 @@ release_number Clearing q = refl
 pub care_number :
     (p : Phase) (q : Request) (v : ℕ) →
     phase_of q.phase ≡ p →
-    (numbers_of (care_takes_in p q v).answer).number ≡ (if not (used_phase p) then 5 else 0)
+    (numbers_of (care_takes_in p q v).answer).number ≡ (when not (used_phase p) then 5 else 0)
 care_number Free q v e = ap number_told (step_takes_in_law q Free e v)
 care_number Asking q v e = refl
 care_number Waiting q v e = ap number_told (step_takes_in_law q Waiting e v) ∙ step_number Waiting q v
@@ -141,20 +141,20 @@ pub step_refused_exactly : StepRefusedExactly
 unfolding step_takes
 step_refused_exactly q v n h =
     let e = step_number (phase_of q.phase) q v ∙
-    ap (λ (x : Bool). if x || held_phase (phase_of q.phase) then 5 else 0) (free_as_kept q) ∙
-    ap (λ (x : Bool). if is_free q || x then 5 else 0) (held_as_kept q) in
+    ap (λ (x : Bool). when x || held_phase (phase_of q.phase) then 5 else 0) (free_as_kept q) ∙
+    ap (λ (x : Bool). when is_free q || x then 5 else 0) (held_as_kept q) in
     (λ p. gives_it n h (step_lines q) (sym e ∙ p), λ g. e ∙ it_gives n (step_lines q) g)
 
 pub release_refused_exactly : ReleaseRefusedExactly
 unfolding release_takes
 release_refused_exactly q v n h =
-    let e = release_number (phase_of q.phase) q ∙ ap (λ (x : Bool). if not x then 5 else 0) (held_as_kept q) in
+    let e = release_number (phase_of q.phase) q ∙ ap (λ (x : Bool). when not x then 5 else 0) (held_as_kept q) in
     (λ p. gives_it n h (release_lines q) (sym e ∙ p), λ g. e ∙ it_gives n (release_lines q) g)
 
 pub care_refused_exactly : CareRefusedExactly
 unfolding care_takes
 care_refused_exactly q v n h =
-    let e = care_number (phase_of q.phase) q v refl ∙ ap (λ (x : Bool). if x then 5 else 0) (free_as_kept q) in
+    let e = care_number (phase_of q.phase) q v refl ∙ ap (λ (x : Bool). when x then 5 else 0) (free_as_kept q) in
     (λ p. gives_it n h (care_lines q) (sym e ∙ p), λ g. e ∙ it_gives n (care_lines q) g)
 
 -- a refused request stays

@@ -1,6 +1,6 @@
 -- The life of a request: what it sends, and what it becomes when the verb's result arrives.
 use Rattle.std.specs.Prelude.{ℕ, eqb}
-use Rattle.common.specs.Choice.{if◌then◌else◌}
+use Rattle.common.specs.Choice.{when◌then◌else◌}
 use Rattle.word_layout.specs.Word.{step_of, back_of, split_of, add_of, swap_of}
 use Rattle.word_layout.specs.declared.Counters.{Counters}
 use Rattle.word_layout.specs.declared.Counter.{Counter}
@@ -95,11 +95,11 @@ waited q v = turned (turn_of (mode_of q.mode) q.ticket v) q
 -- Rules 3.2 to 3.5: Asking, with p the word returned: full is turned away, phase Owing, and no ticket is given; else the ticket, and the
 -- turn test on p.
 unfoldable pub asked : Request → Counters → Taken
-asked q p = if full_at p then becomes (in_phase Owing q) answer.Full else waited (ticketed q p) p
+asked q p = when full_at p then becomes (in_phase Owing q) answer.Full else waited (ticketed q p) p
 
 -- Rule 3.11: Clearing: if the word returned equals the clearing word, cleared, slot free; else not yet clear, and it stays.
 abbrev pub swapped : Request → ℕ → Taken
-swapped q v = if eqb v q.clearing then freed answer.Cleared else becomes q answer.NotYetClear
+swapped q v = when eqb v q.clearing then freed answer.Cleared else becomes q answer.NotYetClear
 
 -- Rules 3.2 to 3.9 and 3.11 to 3.13: What a request becomes when the result v of its step's verb arrives, by phase. A free or a Held one stays, and is told
 -- wrong phase.
@@ -116,7 +116,7 @@ step_takes q v = step_takes_in (phase_of q.phase) q v
 
 -- Rule 3.10: Held, on release: without a clearing word released, slot free; with one clearing due, phase Clearing.
 abbrev pub let_go : Request → Taken
-let_go q = if eqb q.clearing NONE then freed answer.Released else becomes (in_phase Clearing q) answer.ClearingDue
+let_go q = when eqb q.clearing NONE then freed answer.Released else becomes (in_phase Clearing q) answer.ClearingDue
 
 -- Rules 3.10 and 3.12: What a request becomes when the result of its release's verb arrives, whatever that is. Any phase but Held stays,
 -- and is told wrong phase.

@@ -1,6 +1,6 @@
 -- What is promised of the turn test. Statements only: proofs/ has why each holds.
 use Rattle.std.specs.Prelude.{ℕ, ◌+◌, ◌≡◌, eqb}
-use Rattle.common.specs.Choice.{if◌then◌else◌}
+use Rattle.common.specs.Choice.{when◌then◌else◌}
 use Rattle.word_layout.specs.declared.Counters.{Counters}
 use Rattle.agent_ticket.specs.Turn.{turn_of}
 use Rattle.agent_ticket.specs.declared.Ticket.{Ticket}
@@ -10,7 +10,7 @@ use Rattle.agent_ticket.specs.declared.Turn.TheVariants.{Granted, Ahead}
 
 -- Behind n tickets: granted where there are none, else told to wait, with n.
 abbrev pub behind : ℕ → Turn
-behind n = if eqb n 0 then Granted else Ahead n
+behind n = when eqb n 0 then Granted else Ahead n
 
 -- Where x is nX and a more, a reader is behind a tickets, whatever the shared numbers are. (Its ticket was drawn when so many writers more
 -- had drawn theirs than have now let go.)

@@ -1,6 +1,6 @@
 -- The turn test of a ticket (x, s) against the four counters v of a word.
 use Rattle.std.specs.Prelude.{ℕ, ◌+◌, Bool, true, false, not, ◌&&◌, ◌||◌}
-use Rattle.common.specs.Choice.{if◌then◌else◌}
+use Rattle.common.specs.Choice.{when◌then◌else◌}
 use Rattle.word_counter.specs.Order.{exceeds_x, equals_x, beyond_x, exceeds_s, equals_s, beyond_s}
 use Rattle.word_layout.specs.declared.Counters.{Counters}
 use Rattle.agent_ticket.specs.declared.Ticket.{Ticket}
@@ -30,4 +30,4 @@ granted_at m t v = equals_x v.nx t.0 && (not (is_writer m) || equals_s v.ns t.1)
 
 -- Rule 3.6: waiting, otherwise, with the number ahead.
 unfoldable pub turn_of : Mode → Ticket → Counters → Turn
-turn_of m t v = if passed_at m t v then Passed else if granted_at m t v then Granted else Ahead (ahead_of m t v)
+turn_of m t v = when passed_at m t v then Passed else when granted_at m t v then Granted else Ahead (ahead_of m t v)

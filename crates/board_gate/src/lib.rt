@@ -3,7 +3,7 @@
 #![tactic(auto)]
 
 ghost use Rattle.std.specs.Prelude.{◌≡◌};
-ghost use Rattle.common.specs.Choice.{if◌then◌else◌};
+ghost use Rattle.common.specs.Choice.{when◌then◌else◌};
 ghost use Rattle.board_call.specs.declared.AnyCall.TheVariants.{Base};
 ghost use Rattle.board_nodes.specs.Site.{kept_node, opens_shut, used_shut};
 ghost use Rattle.board_nodes.specs.Answers.{reported_as};
@@ -115,7 +115,7 @@ fn used_shut(i: u64, q: Request, shut: bool) -> bool
 }
 
 fn number_if(refuses: bool, number: u8) -> u8
-    ensures { result ≡ (if refuses then number else 0) }
+    ensures { result ≡ (when refuses then number else 0) }
 {
     if refuses {
         return number;
@@ -125,7 +125,7 @@ fn number_if(refuses: bool, number: u8) -> u8
 
 // The number with which a fence refuses an open, 0 where it lets it through.
 pub fn open_gate(record: u64, mode: u64, shut: bool, words: &[u64]) -> u8
-    ensures { result ≡ (if opens_shut «record» mode shut words.now then 14 else 0) }
+    ensures { result ≡ (when opens_shut «record» mode shut words.now then 14 else 0) }
 {
     number_if(opens_shut(record, mode, shut, words), 14)
 }

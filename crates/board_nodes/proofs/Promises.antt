@@ -10,7 +10,7 @@ use native.Mathlib.Omega.{arith}
 use lib.Dec.{eqb, ltb}
 use lib.ListN.{length, get_or, set}
 use lib.Seq.{get_or-set_same, get_or-set_other}
-use Rattle.common.specs.Choice.{if◌then◌else◌}
+use Rattle.common.specs.Choice.{when◌then◌else◌}
 use Rattle.common.proofs.Choices.{either, same_or_not}
 use Rattle.agent_request.specs.Request.{in_use, free_request, opened_request}
 use Rattle.agent_request.specs.declared.Request.{Request}
@@ -155,9 +155,9 @@ same_slot a j e = cc
 opened_is :
     (x y f : Bool) (r m i j : ℕ) (q : Request) (ws : List ℕ) →
     in_use q ≡ f →
-    (if x then visited q ws (Refused 2) else if y then visited q ws (Refused 3) else if f then visited q ws (Refused 6) else visited (opened_request r m) ws (Opened (i % 256))).answer ≡ Opened j →
+    (when x then visited q ws (Refused 2) else when y then visited q ws (Refused 3) else when f then visited q ws (Refused 6) else visited (opened_request r m) ws (Opened (i % 256))).answer ≡ Opened j →
     Opens r m i j q
-    (if x then visited q ws (Refused 2) else if y then visited q ws (Refused 3) else if f then visited q ws (Refused 6) else visited (opened_request r m) ws (Opened (i % 256)))
+    (when x then visited q ws (Refused 2) else when y then visited q ws (Refused 3) else when f then visited q ws (Refused 6) else visited (opened_request r m) ws (Opened (i % 256)))
 opened_is true y f r m i j q ws u e = no_opening 2 j e
 opened_is false true f r m i j q ws u e = no_opening 3 j e
 opened_is false false true r m i j q ws u e = no_opening 6 j e
@@ -173,7 +173,7 @@ opens r m k i j shut q ws = by (eqb (gate_of (OpenAs r m k) shut q ws) 0)
     n : ℕ
     n = gate_of (OpenAs r m k) shut q ws
 
-    by : (x : Bool) → (if x then open_visit r m i q ws else visited q ws (Refused n)).answer ≡ Opened j → Opens r m i j q (if x then open_visit r m i q ws else visited q ws (Refused n))
+    by : (x : Bool) → (when x then open_visit r m i q ws else visited q ws (Refused n)).answer ≡ Opened j → Opens r m i j q (when x then open_visit r m i q ws else visited q ws (Refused n))
     by true e = opened_is (not (is_record r ws)) (ltb 1 m) (in_use q) r m i j q ws refl e
     by false e = no_opening n j e
 

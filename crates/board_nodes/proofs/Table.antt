@@ -11,7 +11,7 @@ use native.Mathlib.Omega.{arith}
 use borrow.Author.Tests.{eqb-true, ne_eqb}
 use lib.Dec.{eqb, ltb, leb}
 use lib.ListN.{length}
-use Rattle.common.specs.Choice.{if◌then◌else◌}
+use Rattle.common.specs.Choice.{when◌then◌else◌}
 use Rattle.common.specs.Table.{Line, line}
 use Rattle.common.proofs.Choices.{either, either_by}
 use Rattle.common.proofs.Tables.{number_in, Real, gives_it, it_gives, none_applies, applies_none}
@@ -62,15 +62,15 @@ passes (l ∷ ls) x = not l.applies && passes ls x
 -- a line put in between gives its number exactly there; elsewhere the number is what it was
 inserted :
     (before : List Line) (n : ℕ) (x : Bool) (behind : List Line) →
-    number_in (before ++ line n x ∷ behind) ≡ (if passes before x then n else number_in (before ++ behind))
+    number_in (before ++ line n x ∷ behind) ≡ (when passes before x then n else number_in (before ++ behind))
 inserted [] n x behind = refl
 inserted (l ∷ ls) n x behind = by l.applies (inserted ls n x behind)
   where
     by :
         (y : Bool) →
-        number_in (ls ++ line n x ∷ behind) ≡ (if passes ls x then n else number_in (ls ++ behind)) →
-        (if y then l.number else number_in (ls ++ line n x ∷ behind)) ≡
-        (if not y && passes ls x then n else if y then l.number else number_in (ls ++ behind))
+        number_in (ls ++ line n x ∷ behind) ≡ (when passes ls x then n else number_in (ls ++ behind)) →
+        (when y then l.number else number_in (ls ++ line n x ∷ behind)) ≡
+        (when not y && passes ls x then n else when y then l.number else number_in (ls ++ behind))
     by true e = refl
     by false e = e
 
@@ -80,14 +80,14 @@ gate_number :
     (c : Call) (t : Site) (i k : ℕ) (d : Done) (before : List Line) (n : ℕ) (shut : Bool) (behind : List Line) (gate : Bool) →
     gate ≡ passes before shut →
     (said_of c d.answer).number ≡ number_in (before ++ behind) →
-    (said_of c (if gate then refused_at n t else around t i k d).answer).number ≡ number_in (before ++ line n shut ∷ behind)
+    (said_of c (when gate then refused_at n t else around t i k d).answer).number ≡ number_in (before ++ line n shut ∷ behind)
 gate_number c t i k d before n shut behind gate e f =
     by gate ∙
-    ap (λ (m : ℕ). if gate then n else m) f ∙
-    ap (λ (x : Bool). if x then n else number_in (before ++ behind)) e ∙
+    ap (λ (m : ℕ). when gate then n else m) f ∙
+    ap (λ (x : Bool). when x then n else number_in (before ++ behind)) e ∙
     sym (inserted before n shut behind)
   where
-    by : (x : Bool) → (said_of c (if x then refused_at n t else around t i k d).answer).number ≡ (if x then n else (said_of c d.answer).number)
+    by : (x : Bool) → (said_of c (when x then refused_at n t else around t i k d).answer).number ≡ (when x then n else (said_of c d.answer).number)
     by true = refl
     by false = refl
 
@@ -123,16 +123,16 @@ unfolding cared care_takes
 cared_number i s =
     let q = slot_at s i in
     tests (leb SLOTS i) (not (in_use q)) (not (is_record q.«record» s.words)) _
-    (λ e. care_number (phase_of q.phase) q (word_of s i) refl ∙ ap (λ (x : Bool). if x then 5 else 0) e) ∙
-    ap (λ (x : Bool). if x then 1 else if not (in_use q) then 4 else if not (is_record q.«record» s.words) then 2 else 0) (past 255 i) ∙
-    ap (λ (x : Bool). if ltb 255 i then 1 else if x then 4 else if not (is_record q.«record» s.words) then 2 else 0) (free_as_kept q) ∙
-    ap (λ (x : Bool). if ltb 255 i then 1 else if is_free q then 4 else if x then 2 else 0) (no_record_law q.«record» s)
+    (λ e. care_number (phase_of q.phase) q (word_of s i) refl ∙ ap (λ (x : Bool). when x then 5 else 0) e) ∙
+    ap (λ (x : Bool). when x then 1 else when not (in_use q) then 4 else when not (is_record q.«record» s.words) then 2 else 0) (past 255 i) ∙
+    ap (λ (x : Bool). when ltb 255 i then 1 else when x then 4 else when not (is_record q.«record» s.words) then 2 else 0) (free_as_kept q) ∙
+    ap (λ (x : Bool). when ltb 255 i then 1 else when is_free q then 4 else when x then 2 else 0) (no_record_law q.«record» s)
   where
     tests :
         (x y z : Bool) (d : Done) →
         (y ≡ false → (said_of (Step i) d.answer).number ≡ 0) →
-        (said_of (Step i) (if x then refused 1 s else if y then refused 4 s else if z then refused 2 s else d).answer).number ≡
-        (if x then 1 else if y then 4 else if z then 2 else 0)
+        (said_of (Step i) (when x then refused 1 s else when y then refused 4 s else when z then refused 2 s else d).answer).number ≡
+        (when x then 1 else when y then 4 else when z then 2 else 0)
     tests true y z d e = refl
     tests false true z d e = refl
     tests false false true d e = refl
@@ -188,7 +188,7 @@ begin_answer t = by (eqb (length t.words) 0 || ltb RECORDS (length t.words)) _ _
     by :
         (x : Bool) (d : SiteDone) (e : Done) →
         d.answer ≡ e.answer →
-        (if x then refused_at 9 t else d).answer ≡ (if x then refused 9 (inner t) else e).answer
+        (when x then refused_at 9 t else d).answer ≡ (when x then refused 9 (inner t) else e).answer
     by true d e p = refl
     by false d e p = p
 
@@ -243,7 +243,7 @@ plain_refusal o n h k =
 counted :
     (n x c d : Bool) →
     (n ≡ true → d ≡ false) →
-    ◌≡◌ {A = ℕ} (if c then 0 else if n && not x then 1 else 0) (if n && not (x || (c || d)) then 1 else 0)
+    ◌≡◌ {A = ℕ} (when c then 0 else when n && not x then 1 else 0) (when n && not (x || (c || d)) then 1 else 0)
 counted true x c true h = absurd (apart (h refl))
 counted true true true false h = refl
 counted true true false false h = refl
@@ -273,7 +273,7 @@ plain_base c s =
       slot = names_its_slot c s;
       value = value_is_said c s;
       verbs =
-          ap (λ (n : ℕ). if eqb d.outcome 12 then 0 else n) (verbs_are_counted c s) ∙
+          ap (λ (n : ℕ). when eqb d.outcome 12 then 0 else n) (verbs_are_counted c s) ∙
           counted (eqb d.number 0) (eqb d.outcome 1 || eqb d.outcome 10) (eqb d.outcome 12) (eqb d.outcome 13)
           (λ e. not_thirteen c d.outcome (said.1 (eqb-true d.number 0 e)));
       named = answer_is_its_numbers c s;
@@ -368,7 +368,7 @@ gated :
     14 ≤ n →
     n ≤ 16 →
     Plain o d.answer →
-    Plain o (if gate then refused_at n t else around t i k d).answer
+    Plain o (when gate then refused_at n t else around t i k d).answer
 gated o t gate n i k d l h p = either (λ (x : SiteDone). Plain o x.answer) gate (plain_refusal o n (omega arith) (inr (omega arith, omega arith))) p
 
 all_plain : (o : AnyCall) (t : Site) → Plain o (played_at o t).answer

@@ -10,7 +10,7 @@ use borrow.Author.Tests.{leb-true, leb-false, le-ltb}
 use lib.Dec.{eqb, ltb, leb}
 use lib.ListN.{length, get_or, set}
 use lib.Seq.{set-get_or, get_or-set_same}
-use Rattle.common.specs.Choice.{if◌then◌else◌}
+use Rattle.common.specs.Choice.{when◌then◌else◌}
 use Rattle.common.proofs.Choices.{either}
 use Rattle.agent_request.specs.Request.{phase_of, used_phase, in_use, free_request}
 use Rattle.agent_request.specs.declared.Request.{Request}
@@ -55,10 +55,10 @@ sent_care q ws verb takes used one e f = rw (e, f, used, one) (by (is_record q.�
     v : ℕ
     v = get_or ws q.«record» 0
 
-    by : (y : Bool) → (if not y then visited q ws (Refused 2) else visited (takes v).request (set ws q.«record» (left_by verb v)) (Told (takes v).answer)) ≡
-        (if eqb (if not y then 2 else 0) 0
+    by : (y : Bool) → (when not y then visited q ws (Refused 2) else visited (takes v).request (set ws q.«record» (left_by verb v)) (Told (takes v).answer)) ≡
+        (when eqb (when not y then 2 else 0) 0
         then visited (takes v).request (set ws q.«record» (left_by verb v)) (Told (takes v).answer)
-        else visited q ws (Refused (if not y then 2 else 0)))
+        else visited q ws (Refused (when not y then 2 else 0)))
     by true = refl
     by false = refl
 
@@ -96,7 +96,7 @@ free_care q ws h = rw h refl
 pub asking_care : (q : Request) (ws : List ℕ) → phase_of q.phase ≡ Asking → care_visit q ws ≡ unasked_visit q ws
 unfolding care_visit unasked_visit care_sends care_takes
 asking_care q ws h =
-    rw h (ap (λ (w : List ℕ). if not (is_record q.«record» ws) then visited q ws (Refused 2) else visited free_request w (Told FreedUnasked)) (set-get_or ws q.«record» 0))
+    rw h (ap (λ (w : List ℕ). when not (is_record q.«record» ws) then visited q ws (Refused 2) else visited free_request w (Told FreedUnasked)) (set-get_or ws q.«record» 0))
 
 pub unasked_words : (q : Request) (ws : List ℕ) → (unasked_visit q ws).words ≡ ws
 unfolding unasked_visit
@@ -106,7 +106,7 @@ unasked_words q ws = either (λ (v : Visited). v.words ≡ ws) (not (is_record q
 pub kept_same : (k n : ℕ) (q : Request) → kept_node k q q n ≡ n
 kept_same k n q = by (in_use q)
   where
-    by : (x : Bool) → (if x then (if x then n else k) else (if x then 0 else n)) ≡ n
+    by : (x : Bool) → (when x then (when x then n else k) else (when x then 0 else n)) ≡ n
     by true = refl
     by false = refl
 
@@ -165,8 +165,8 @@ through :
     Leaving o →
     (eqb g 0 ≡ false) →
     (x ≡ false → d ≡ stored_at t o i v) →
-    (if x then refused_at g t else d) ≡
-    stored_at t o i (if eqb (if x then g else 0) 0 then v else visited (slot_at (inner t) i) t.words (Refused (if x then g else 0)))
+    (when x then refused_at g t else d) ≡
+    stored_at t o i (when eqb (when x then g else 0) 0 then v else visited (slot_at (inner t) i) t.words (Refused (when x then g else 0)))
 through t o i g true d v l e f = rw e (back_at t o i g l)
 through t o i g false d v l e f = f refl
 
@@ -179,21 +179,21 @@ named :
     eqb g 0 ≡ false →
     d ≡ stored (inner t) (within_board n) (named_visit n (slot_at (inner t) (within_board n)) t.words v) →
     (leb SLOTS n ≡ false → b ≡ c) →
-    (if used_shut n (slot_at (inner t) n) b then refused_at g t else around t n 0 d) ≡
+    (when used_shut n (slot_at (inner t) n) b then refused_at g t else around t n 0 d) ≡
     stored_at t o (within_board n)
-    (if eqb (if used_shut n (slot_at (inner t) (within_board n)) c then g else 0) 0
+    (when eqb (when used_shut n (slot_at (inner t) (within_board n)) c then g else 0) 0
     then named_visit n (slot_at (inner t) (within_board n)) t.words v
-    else visited (slot_at (inner t) (within_board n)) t.words (Refused (if used_shut n (slot_at (inner t) (within_board n)) c then g else 0)))
+    else visited (slot_at (inner t) (within_board n)) t.words (Refused (when used_shut n (slot_at (inner t) (within_board n)) c then g else 0)))
 unfolding named_visit
 named t o n g b c d v long l k g0 e same = by (leb SLOTS n) refl
   where
     Goal : Type 0
     Goal =
-        (if used_shut n (slot_at (inner t) n) b then refused_at g t else around t n 0 d) ≡
+        (when used_shut n (slot_at (inner t) n) b then refused_at g t else around t n 0 d) ≡
         stored_at t o (within_board n)
-        (if eqb (if used_shut n (slot_at (inner t) (within_board n)) c then g else 0) 0
+        (when eqb (when used_shut n (slot_at (inner t) (within_board n)) c then g else 0) 0
         then named_visit n (slot_at (inner t) (within_board n)) t.words v
-        else visited (slot_at (inner t) (within_board n)) t.words (Refused (if used_shut n (slot_at (inner t) (within_board n)) c then g else 0)))
+        else visited (slot_at (inner t) (within_board n)) t.words (Refused (when used_shut n (slot_at (inner t) (within_board n)) c then g else 0)))
 
     by : (x : Bool) → leb SLOTS n ≡ x → Goal
     by true h =
@@ -223,9 +223,9 @@ care_stored t n = by (leb SLOTS n) refl
     back i m = ap (λ (qs : List Request). record { slots = qs; words = t.words; answer = Refused m }) (sym (set-get_or t.slots i free_request))
 
     inside : (x y : Bool) (w : Visited) →
-        (if not x then refused 4 (inner t) else if not y then refused 2 (inner t) else stored (inner t) n w) ≡
+        (when not x then refused 4 (inner t) else when not y then refused 2 (inner t) else stored (inner t) n w) ≡
         stored (inner t) n
-        (if not x then visited (slot_at (inner t) n) t.words (Refused 4) else if not y then visited (slot_at (inner t) n) t.words (Refused 2) else w)
+        (when not x then visited (slot_at (inner t) n) t.words (Refused 4) else when not y then visited (slot_at (inner t) n) t.words (Refused 2) else w)
     inside true true w = refl
     inside true false w = back n 2
     inside false y w = back n 4
@@ -267,9 +267,9 @@ opens :
     let i = aim_of (Open r m) (map_of t.slots) in
     opened_by r m k t ≡
     stored_at t o i
-    (if eqb (if opens_shut r m (fenced_at t k) t.words then 14 else 0) 0
+    (when eqb (when opens_shut r m (fenced_at t k) t.words then 14 else 0) 0
     then open_visit r m i (slot_at (inner t) i) t.words
-    else visited (slot_at (inner t) i) t.words (Refused (if opens_shut r m (fenced_at t k) t.words then 14 else 0)))
+    else visited (slot_at (inner t) i) t.words (Refused (when opens_shut r m (fenced_at t k) t.words then 14 else 0)))
 unfolding opened_by aim_of
 opens t o r m k long l e =
     let j = lowest_free t.slots in

@@ -1,6 +1,6 @@
 -- Number, outcome, slot and value of the answer to any call, and the count of verbs: those of the call of the base that it is reported as.
 use Rattle.std.specs.Prelude.{ℕ, eqb}
-use Rattle.common.specs.Choice.{if◌then◌else◌}
+use Rattle.common.specs.Choice.{when◌then◌else◌}
 use Rattle.board_call.specs.declared.Call.{Call}
 use Rattle.board_call.specs.declared.Call.TheVariants.{Open, Step, Show}
 use Rattle.board_call.specs.declared.AnyCall.{AnyCall}
@@ -23,4 +23,4 @@ said_of_any o a = said_of (reported_as o) a
 
 -- Rule 7.4: An accepted step, release or care sends a verb, but for a care with outcome 12.
 unfoldable pub verbs_of_any : AnyCall → Answer → ℕ
-verbs_of_any o a = if eqb (said_of_any o a).outcome 12 then 0 else verbs_of (reported_as o) a
+verbs_of_any o a = when eqb (said_of_any o a).outcome 12 then 0 else verbs_of (reported_as o) a

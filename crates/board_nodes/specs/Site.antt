@@ -1,6 +1,6 @@
 -- The board with nodes and fences: what it keeps, and what each of the seven calls makes of it. A call of the base is what it was, behind one test.
 use Rattle.std.specs.Prelude.{ℕ, Bool, true, false, not, ◌&&◌, ◌||◌, List, eqb, ltb, length, get_or, set, replicate}
-use Rattle.common.specs.Choice.{if◌then◌else◌}
+use Rattle.common.specs.Choice.{when◌then◌else◌}
 use Rattle.agent_request.specs.Request.{in_use}
 use Rattle.agent_request.specs.declared.Request.{Request}
 use Rattle.board_slots.specs.Slots.{SLOTS, lowest_free, fresh_slots}
@@ -53,9 +53,9 @@ refused_at n t = record { slots = t.slots; nodes = t.nodes; fenced = t.fenced; w
 -- to node 0; any other to the node that it had.
 abbrev pub kept_node : ℕ → Request → Request → ℕ → ℕ
 kept_node k before after n =
-    if in_use after
-    then (if in_use before then n else k)
-    else (if in_use before then 0 else n)
+    when in_use after
+    then (when in_use before then n else k)
+    else (when in_use before then 0 else n)
 
 -- What a call of the base on the slot i, made for the node k, leaves of the whole.
 abbrev pub around : Site → ℕ → ℕ → Done → SiteDone
@@ -79,20 +79,20 @@ used_shut i q shut = ltb i SLOTS && (in_use q && shut)
 -- Rules 4.4 and 4.11: Open by a node: 14 if it is fenced, else as before.
 unfoldable pub opened_by : ℕ → ℕ → ℕ → Site → SiteDone
 opened_by r m k t =
-    if opens_shut r m (fenced_at t k) t.words
+    when opens_shut r m (fenced_at t k) t.words
     then refused_at 14 t
     else around t (lowest_free t.slots) k (opened r m (inner t))
 
 -- Rules 4.5, 4.6 and 4.11: Step and release: 15 on a slot of a fenced node, else as before.
 unfoldable pub stepped_at : ℕ → Site → SiteDone
-stepped_at i t = if used_shut i (slot_at (inner t) i) (shut_at t i) then refused_at 15 t else around t i 0 (stepped i (inner t))
+stepped_at i t = when used_shut i (slot_at (inner t) i) (shut_at t i) then refused_at 15 t else around t i 0 (stepped i (inner t))
 
 unfoldable pub released_at : ℕ → Site → SiteDone
-released_at i t = if used_shut i (slot_at (inner t) i) (shut_at t i) then refused_at 15 t else around t i 0 (released i (inner t))
+released_at i t = when used_shut i (slot_at (inner t) i) (shut_at t i) then refused_at 15 t else around t i 0 (released i (inner t))
 
 -- Rule 4.13: Care: 16 on a slot of a node that is not fenced, else the care of the slot.
 unfoldable pub cared_at : ℕ → Site → SiteDone
-cared_at i t = if used_shut i (slot_at (inner t) i) (not (shut_at t i)) then refused_at 16 t else around t i 0 (cared i (inner t))
+cared_at i t = when used_shut i (slot_at (inner t) i) (not (shut_at t i)) then refused_at 16 t else around t i 0 (cared i (inner t))
 
 -- Rule 4.12: Fence: the node is fenced, whether it was or not. Nothing else changes.
 unfoldable pub fenced_by : ℕ → Site → SiteDone
@@ -125,6 +125,6 @@ no_fences = replicate NODES false
 -- Rules 4.3, 4.12 and 5.1: Begin: 9 for 0 words or more than 4,096, and nothing changes, the fences neither; else all lent words 0, and the board fresh.
 unfoldable pub begun_at : Site → SiteDone
 begun_at t =
-    if eqb (length t.words) 0 || ltb RECORDS (length t.words)
+    when eqb (length t.words) 0 || ltb RECORDS (length t.words)
     then refused_at 9 t
     else record { slots = fresh_slots; nodes = fresh_nodes; fenced = no_fences; words = replicate (length t.words) 0; answer = Begun }

@@ -1,6 +1,6 @@
 -- Which number any call is answered with, as a table: rule 5.1 for what each number means, rule 5.2 for the order. And what the numbers of an answer say.
 use Rattle.std.specs.Prelude.{ℕ, ◌<◌, ◌≤◌, ◌≡◌, Bool, true, not, ◌&&◌, ◌||◌, ◌↔◌, ◌⊎◌, List, [], ◌∷◌, eqb, ltb, length}
-use Rattle.common.specs.Choice.{if◌then◌else◌}
+use Rattle.common.specs.Choice.{when◌then◌else◌}
 use Rattle.common.specs.Table.{Line, line, Gives, NoneApplies}
 use Rattle.agent_rules.specs.Table.{is_free, is_held}
 use Rattle.board_slots.specs.Slots.{SLOTS, used_slots}
@@ -123,7 +123,7 @@ AnyValueIsSaid =
 -- Rule 7.4: a verb is counted for every accepted call but opened, 1, shown, 10, freed unasked, 12, and fenced, 13; and for nothing else.
 abbrev pub verbs_said : Said → ℕ
 verbs_said d =
-    if eqb d.number 0 && not ((eqb d.outcome 1 || eqb d.outcome 10) || (eqb d.outcome 12 || eqb d.outcome 13)) then 1 else 0
+    when eqb d.number 0 && not ((eqb d.outcome 1 || eqb d.outcome 10) || (eqb d.outcome 12 || eqb d.outcome 13)) then 1 else 0
 
 abbrev pub AnyVerbsAreCounted : Type 0
 AnyVerbsAreCounted = (o : AnyCall) (t : Site) → verbs_of_any o (played_at o t).answer ≡ verbs_said (said_to_any o t)

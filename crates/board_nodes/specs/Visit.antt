@@ -1,7 +1,7 @@
 -- A mirror of `Site`: any call as a visit of one slot, with the one bit of its gate: whether the node that it looks at is fenced. Nothing here needs
 -- belief: `AnyVisitIsPlayed` (Promises) says that it is the same as playing the call.
 use Rattle.std.specs.Prelude.{ℕ, Bool, true, not, List, eqb, get_or, set}
-use Rattle.common.specs.Choice.{if◌then◌else◌}
+use Rattle.common.specs.Choice.{when◌then◌else◌}
 use Rattle.agent_request.specs.Request.{in_use, free_request}
 use Rattle.agent_request.specs.declared.Request.{Request}
 use Rattle.agent_rules.specs.Life.{left_by}
@@ -43,19 +43,19 @@ fence_after (Care i) shut = shut
 
 -- The number with which the gate refuses, 0 where it lets through.
 abbrev pub gate_of : AnyCall → Bool → Request → List ℕ → ℕ
-gate_of (Base (Open r m)) shut q ws = if opens_shut r m shut ws then 14 else 0
-gate_of (Base (Step i)) shut q ws = if used_shut i q shut then 15 else 0
-gate_of (Base (Release i)) shut q ws = if used_shut i q shut then 15 else 0
+gate_of (Base (Open r m)) shut q ws = when opens_shut r m shut ws then 14 else 0
+gate_of (Base (Step i)) shut q ws = when used_shut i q shut then 15 else 0
+gate_of (Base (Release i)) shut q ws = when used_shut i q shut then 15 else 0
 gate_of (Base (Show r)) shut q ws = 0
-gate_of (OpenAs r m k) shut q ws = if opens_shut r m shut ws then 14 else 0
+gate_of (OpenAs r m k) shut q ws = when opens_shut r m shut ws then 14 else 0
 gate_of (Fence k) shut q ws = 0
-gate_of (Care i) shut q ws = if used_shut i q (not shut) then 16 else 0
+gate_of (Care i) shut q ws = when used_shut i q (not shut) then 16 else 0
 
 -- A care as a visit.
 unfoldable pub care_visit : Request → List ℕ → Visited
 care_visit q ws =
-    if not (in_use q) then visited q ws (Refused 4) else
-    if not (is_record q.«record» ws) then visited q ws (Refused 2) else
+    when not (in_use q) then visited q ws (Refused 4) else
+    when not (is_record q.«record» ws) then visited q ws (Refused 2) else
     visited
     (care_takes q (get_or ws q.«record» 0)).request
     (set ws q.«record» (left_by (care_sends q) (get_or ws q.«record» 0)))
@@ -63,7 +63,7 @@ care_visit q ws =
 
 -- The care of a request that asks.
 unfoldable pub unasked_visit : Request → List ℕ → Visited
-unasked_visit q ws = if not (is_record q.«record» ws) then visited q ws (Refused 2) else visited free_request ws (Told FreedUnasked)
+unasked_visit q ws = when not (is_record q.«record» ws) then visited q ws (Refused 2) else visited free_request ws (Told FreedUnasked)
 
 -- The visit behind the gate.
 abbrev pub behind_gate : AnyCall → ℕ → Request → List ℕ → Visited
@@ -75,7 +75,7 @@ behind_gate (Care n) i q ws = named_visit n q ws (care_visit q ws)
 -- The visit of the slot i, whose request is q.
 unfoldable pub any_visit : AnyCall → ℕ → Bool → Request → List ℕ → Visited
 any_visit o i shut q ws =
-    if eqb (gate_of o shut q ws) 0
+    when eqb (gate_of o shut q ws) 0
     then behind_gate o i q ws
     else visited q ws (Refused (gate_of o shut q ws))
 

@@ -9,7 +9,7 @@ use borrow.Author.Tests.{lt-leb}
 use lib.Dec.{eqb, leb}
 use lib.ListN.{set}
 use lib.Seq.{set-get_or}
-use Rattle.common.specs.Choice.{if◌then◌else◌}
+use Rattle.common.specs.Choice.{when◌then◌else◌}
 use Rattle.agent_request.specs.Request.{phase_of, used_phase, in_use, free_request}
 use Rattle.agent_request.specs.declared.Phase.{Phase}
 use Rattle.agent_request.specs.declared.Phase.TheVariants.{Waiting, Owing, Clearing}
@@ -36,9 +36,9 @@ gone i verb takes s =
 -- the tests of a care and of a sent verb, where the slot is in use and sends one
 tests :
     (y : Bool) (s : State) (d : Done) →
-    (if not true then refused 4 s else if not y then refused 2 s else d) ≡
-    (if eqb (if not true then 4 else if false then 5 else if not y then 2 else 0) 0 then d else refused
-    (if not true then 4 else if false then 5 else if not y then 2 else 0) s)
+    (when not true then refused 4 s else when not y then refused 2 s else d) ≡
+    (when eqb (when not true then 4 else when false then 5 else when not y then 2 else 0) 0 then d else refused
+    (when not true then 4 else when false then 5 else when not y then 2 else 0) s)
 tests true s d = refl
 tests false s d = refl
 
@@ -48,10 +48,10 @@ same :
     is_nothing verb ≡ false →
     care_sends (slot_at s i) ≡ verb →
     care_takes (slot_at s i) (word_of s i) ≡ takes (word_of s i) →
-    cared i s ≡ (if leb SLOTS i then refused 1 s else sent i (slot_at s i) verb takes s)
+    cared i s ≡ (when leb SLOTS i then refused 1 s else sent i (slot_at s i) verb takes s)
 unfolding cared sent refusal_of
 same i s verb takes used one e f =
-    rw (e, f, used, one) (ap (λ (d : Done). if leb SLOTS i then refused 1 s else d) (tests (is_record (slot_at s i).«record» s.words) s
+    rw (e, f, used, one) (ap (λ (d : Done). when leb SLOTS i then refused 1 s else d) (tests (is_record (slot_at s i).«record» s.words) s
     (gone i verb takes s)))
 
 pub care_releases : CareReleases

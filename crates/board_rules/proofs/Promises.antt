@@ -7,7 +7,7 @@ use native.Mathlib.Omega.{arith}
 use borrow.Author.Tests.{leb-false}
 use lib.Dec.{eqb, ltb, leb}
 use lib.ListN.{length}
-use Rattle.common.specs.Choice.{if◌then◌else◌}
+use Rattle.common.specs.Choice.{when◌then◌else◌}
 use Rattle.common.proofs.Choices.{either}
 use Rattle.agent_rules.specs.Life.{step_sends, release_sends, step_takes, release_takes}
 use Rattle.agent_rules.specs.declared.Verb.{Verb}
@@ -81,7 +81,7 @@ refused_begin_keeps s n e = (begin_keeps s).kept n e
 -- the slot of an accepted open
 which :
     (x y f : Bool) (s : State) (k : ℕ) (a : Done) →
-    (if x then refused 2 s else if y then refused 3 s else if f then refused 6 s else a).answer ≡ Opened k →
+    (when x then refused 2 s else when y then refused 3 s else when f then refused 6 s else a).answer ≡ Opened k →
     (f ≡ false) × (a.answer ≡ Opened k)
 which true y f s k a e = let z : ◌≡◌ {A = ℕ} 0 1 = cc in absurd (omega arith)
 which false true f s k a e = let z : ◌≡◌ {A = ℕ} 0 1 = cc in absurd (omega arith)

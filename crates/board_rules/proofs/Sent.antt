@@ -8,7 +8,7 @@ use native.Mathlib.Omega.{arith}
 use borrow.Author.Tests.{ne_eqb, ltb-true}
 use lib.Dec.{ltb}
 use lib.ListN.{length, get_or, set}
-use Rattle.common.specs.Choice.{if◌then◌else◌}
+use Rattle.common.specs.Choice.{when◌then◌else◌}
 use Rattle.agent_request.specs.declared.Request.{Request}
 use Rattle.agent_rules.specs.Life.{left_by}
 use Rattle.agent_rules.specs.declared.Verb.{Verb}
@@ -26,7 +26,7 @@ both_left false b e = e
 pub record_lent : (r : ℕ) (ws : List ℕ) → is_record r ws ≡ true → r < length ws
 record_lent r ws e = ltb-true r (length ws) (both_left _ _ e)
 
-none_refused : (a b c : Bool) → ◌≡◌ {A = ℕ} (if not a then 4 else if b then 5 else if not c then 2 else 0) 0 → c ≡ true
+none_refused : (a b c : Bool) → ◌≡◌ {A = ℕ} (when not a then 4 else when b then 5 else when not c then 2 else 0) 0 → c ≡ true
 none_refused false b c e = absurd (omega arith)
 none_refused true true c e = absurd (omega arith)
 none_refused true false false e = absurd (omega arith)

@@ -10,7 +10,7 @@ use native.Mathlib.Nat.{zero-add}
 use borrow.Author.Tests.{ltb-true, ltb-false, lt-ltb, le-ltb, le-leb, lt-leb, eqb-true, eqb-false, ne_eqb, not-false}
 use lib.Dec.{eqb, ltb, leb}
 use lib.ListN.{length, get_or}
-use Rattle.common.specs.Choice.{if◌then◌else◌}
+use Rattle.common.specs.Choice.{when◌then◌else◌}
 use Rattle.common.proofs.Choices.{either, either_by}
 use Rattle.common.proofs.Tables.{number_in, Real, gives_it, it_gives, none_applies, applies_none}
 use Rattle.word_layout.specs.Word.{split_of}
@@ -87,14 +87,14 @@ no_record_law r s = not_both (ltb r (length s.words)) (ltb r RECORDS) ∙ ap (λ
 -- open, and show, by what the tests say
 open_number :
     (x y f : Bool) (s : State) (d : Done) → refusal_in d.answer ≡ 0 →
-    refusal_in (if x then refused 2 s else if y then refused 3 s else if f then refused 6 s else d).answer ≡
-    (if x then 2 else if y then 3 else if f then 6 else 0)
+    refusal_in (when x then refused 2 s else when y then refused 3 s else when f then refused 6 s else d).answer ≡
+    (when x then 2 else when y then 3 else when f then 6 else 0)
 open_number true y f s d e = refl
 open_number false true f s d e = refl
 open_number false false true s d e = refl
 open_number false false false s d e = e
 
-show_number : (x : Bool) (w : ℕ) → refusal_in (if x then Shown w else Refused 2) ≡ (if not x then 2 else 0)
+show_number : (x : Bool) (w : ℕ) → refusal_in (when x then Shown w else Refused 2) ≡ (when not x then 2 else 0)
 show_number true w = refl
 show_number false w = refl
 
@@ -105,12 +105,12 @@ sent_number s i q verb takes =
     either_by (λ (d : Done). refusal_in d.answer ≡ refusal_of q verb s.words) (eqb (refusal_of q verb s.words) 0)
     (λ e. sym (eqb-true (refusal_of q verb s.words) 0 e)) (λ e. refl)
 
-named_number : (x : Bool) (s : State) (d : Done) (n : ℕ) → refusal_in d.answer ≡ n → refusal_in (if x then refused 1 s else d).answer ≡ (if x then 1 else n)
+named_number : (x : Bool) (s : State) (d : Done) (n : ℕ) → refusal_in d.answer ≡ n → refusal_in (when x then refused 1 s else d).answer ≡ (when x then 1 else n)
 named_number true s d n e = refl
 named_number false s d n e = e
 
 -- in use and sending nothing: for a step that is Held, for a release all but Held
-step_nothing : (p : Phase) (q : Request) (z : Bool) → ◌≡◌ {A = ℕ} (if not (used_phase p) then 4 else if is_nothing (step_sends_in p q) then 5 else if z then 2 else 0) (if not (used_phase p) then 4 else if held_phase p then 5 else if z then 2 else 0)
+step_nothing : (p : Phase) (q : Request) (z : Bool) → ◌≡◌ {A = ℕ} (when not (used_phase p) then 4 else when is_nothing (step_sends_in p q) then 5 else when z then 2 else 0) (when not (used_phase p) then 4 else when held_phase p then 5 else when z then 2 else 0)
 step_nothing Free q z = refl
 step_nothing Asking q z = refl
 step_nothing Waiting q z = refl
@@ -118,7 +118,7 @@ step_nothing Held q z = refl
 step_nothing Owing q z = refl
 step_nothing Clearing q z = refl
 
-release_nothing : (p : Phase) (q : Request) (z : Bool) → ◌≡◌ {A = ℕ} (if not (used_phase p) then 4 else if is_nothing (release_sends_in p q) then 5 else if z then 2 else 0) (if not (used_phase p) then 4 else if not (held_phase p) then 5 else if z then 2 else 0)
+release_nothing : (p : Phase) (q : Request) (z : Bool) → ◌≡◌ {A = ℕ} (when not (used_phase p) then 4 else when is_nothing (release_sends_in p q) then 5 else when z then 2 else 0) (when not (used_phase p) then 4 else when not (held_phase p) then 5 else when z then 2 else 0)
 release_nothing Free q z = refl
 release_nothing Asking q z = refl
 release_nothing Waiting q z = refl
@@ -130,28 +130,28 @@ refusal_number : (c : Call) (s : State) → length s.slots ≡ SLOTS → refusal
 unfolding opened stepped released shown shown_of refusal_of step_sends release_sends
 refusal_number (Open r m) s long =
     open_number (not (is_record r s.words)) (ltb 1 m) (leb SLOTS (lowest_free s.slots)) s _ refl ∙
-    ap (λ (x : Bool). if x then 2 else if ltb 1 m then 3 else if leb SLOTS (lowest_free s.slots) then 6 else 0) (no_record_law r s) ∙
-    ap (λ (x : Bool). if no_record r s then 2 else if ltb 1 m then 3 else if x then 6 else 0) (none_free_is_all_used s.slots SLOTS long)
+    ap (λ (x : Bool). when x then 2 else when ltb 1 m then 3 else when leb SLOTS (lowest_free s.slots) then 6 else 0) (no_record_law r s) ∙
+    ap (λ (x : Bool). when no_record r s then 2 else when ltb 1 m then 3 else when x then 6 else 0) (none_free_is_all_used s.slots SLOTS long)
 refusal_number (Step i) s long =
     let q = slot_at s i in
     named_number (leb SLOTS i) s _ _ (sent_number s i q (step_sends q) (step_takes q)) ∙
-    ap (λ (x : Bool). if x then 1 else refusal_of q (step_sends q) s.words) (past 255 i) ∙
-    ap (λ (n : ℕ). if ltb 255 i then 1 else n)
+    ap (λ (x : Bool). when x then 1 else refusal_of q (step_sends q) s.words) (past 255 i) ∙
+    ap (λ (n : ℕ). when ltb 255 i then 1 else n)
     (step_nothing (phase_of q.phase) q (not (is_record q.«record» s.words)) ∙
-    ap (λ (x : Bool). if x then 4 else if held_phase (phase_of q.phase) then 5 else if not (is_record q.«record» s.words) then 2 else 0) (free_as_kept q) ∙
-    ap (λ (x : Bool). if is_free q then 4 else if x then 5 else if not (is_record q.«record» s.words) then 2 else 0) (held_as_kept q) ∙
-    ap (λ (x : Bool). if is_free q then 4 else if is_held q then 5 else if x then 2 else 0) (no_record_law q.«record» s))
+    ap (λ (x : Bool). when x then 4 else when held_phase (phase_of q.phase) then 5 else when not (is_record q.«record» s.words) then 2 else 0) (free_as_kept q) ∙
+    ap (λ (x : Bool). when is_free q then 4 else when x then 5 else when not (is_record q.«record» s.words) then 2 else 0) (held_as_kept q) ∙
+    ap (λ (x : Bool). when is_free q then 4 else when is_held q then 5 else when x then 2 else 0) (no_record_law q.«record» s))
 refusal_number (Release i) s long =
     let q = slot_at s i in
     named_number (leb SLOTS i) s _ _ (sent_number s i q (release_sends q) (release_takes q)) ∙
-    ap (λ (x : Bool). if x then 1 else refusal_of q (release_sends q) s.words) (past 255 i) ∙
-    ap (λ (n : ℕ). if ltb 255 i then 1 else n)
+    ap (λ (x : Bool). when x then 1 else refusal_of q (release_sends q) s.words) (past 255 i) ∙
+    ap (λ (n : ℕ). when ltb 255 i then 1 else n)
     (release_nothing (phase_of q.phase) q (not (is_record q.«record» s.words)) ∙
-    ap (λ (x : Bool). if x then 4 else if not (held_phase (phase_of q.phase)) then 5 else if not (is_record q.«record» s.words) then 2 else 0) (free_as_kept q) ∙
-    ap (λ (x : Bool). if is_free q then 4 else if not x then 5 else if not (is_record q.«record» s.words) then 2 else 0) (held_as_kept q) ∙
-    ap (λ (x : Bool). if is_free q then 4 else if not (is_held q) then 5 else if x then 2 else 0) (no_record_law q.«record» s))
+    ap (λ (x : Bool). when x then 4 else when not (held_phase (phase_of q.phase)) then 5 else when not (is_record q.«record» s.words) then 2 else 0) (free_as_kept q) ∙
+    ap (λ (x : Bool). when is_free q then 4 else when not x then 5 else when not (is_record q.«record» s.words) then 2 else 0) (held_as_kept q) ∙
+    ap (λ (x : Bool). when is_free q then 4 else when not (is_held q) then 5 else when x then 2 else 0) (no_record_law q.«record» s))
 refusal_number (Show r) s long =
-    show_number (is_record r s.words) _ ∙ ap (λ (x : Bool). if x then 2 else 0) (no_record_law r s)
+    show_number (is_record r s.words) _ ∙ ap (λ (x : Bool). when x then 2 else 0) (no_record_law r s)
 
 -- an answer's number is the table's
 pub number_is : (c : Call) (s : State) → length s.slots ≡ SLOTS → (said_to c s).number ≡ number_in (lines_of c s)
@@ -182,7 +182,7 @@ begin_number_law : (s : State) → (said_with 0 (begun s).answer).number ≡ num
 unfolding begun
 begin_number_law s = by (eqb (length s.words) 0 || ltb RECORDS (length s.words)) _
   where
-    by : (x : Bool) (d : Done) → (said_with 0 (if x then refused 9 s else d).answer).number ≡ (if x then 9 else (said_with 0 d.answer).number)
+    by : (x : Bool) (d : Done) → (said_with 0 (when x then refused 9 s else d).answer).number ≡ (when x then 9 else (said_with 0 d.answer).number)
     by true d = refl
     by false d = refl
 
@@ -207,7 +207,7 @@ record Plain (c : Call) (a : Answer) : Type 0 where
   refused : 0 < (said_of c a).number → (said_of c a).outcome ≡ 0
   slot : in_range c → (said_of c a).slot ≡ slot_said c a
   value : ((said_of c a).outcome ≡ 3 → ⊥) → ((said_of c a).outcome ≡ 10 → ⊥) → (said_of c a).value ≡ 0
-  verbs : verbs_of c a ≡ (if eqb (said_of c a).number 0 && not (eqb (said_of c a).outcome 1 || eqb (said_of c a).outcome 10) then 1 else 0)
+  verbs : verbs_of c a ≡ (when eqb (said_of c a).number 0 && not (eqb (said_of c a).outcome 1 || eqb (said_of c a).outcome 10) then 1 else 0)
   named : answer_named (said_of c a) ≡ a
 
 low : (i : ℕ) → i < 256 → i % 256 ≡ i

@@ -8,7 +8,7 @@ use mathlib.Core.List.{List}
 use native.Mathlib.Omega.{arith}
 use lib.Dec.{eqb, ltb, leb}
 use lib.ListN.{get_or}
-use Rattle.common.specs.Choice.{if◌then◌else◌}
+use Rattle.common.specs.Choice.{when◌then◌else◌}
 use Rattle.common.proofs.Choices.{either}
 use Rattle.agent_request.specs.Request.{in_use, phase_of}
 use Rattle.agent_request.specs.declared.Request.{Request}
@@ -71,7 +71,7 @@ by_opening : {slots : List Request} {words : List ℕ} {k : ℕ} → Quiet (reco
 by_opening = record { quiet = refl }
 
 -- a verb that may go out is one
-pub goes_out : (x y z : Bool) → eqb (if x then 4 else if y then 5 else if z then 2 else 0) 0 ≡ true → y ≡ false
+pub goes_out : (x y z : Bool) → eqb (when x then 4 else when y then 5 else when z then 2 else 0) 0 ≡ true → y ≡ false
 goes_out true y z e = absurd (apart (sym e))
 goes_out false true z e = absurd (apart (sym e))
 goes_out false false z e = refl

@@ -10,7 +10,7 @@ use borrow.Author.Tests.{leb-true, leb-false}
 use lib.Dec.{eqb, ltb, leb}
 use lib.ListN.{length, get_or}
 use lib.Seq.{set-get_or}
-use Rattle.common.specs.Choice.{if◌then◌else◌}
+use Rattle.common.specs.Choice.{when◌then◌else◌}
 use Rattle.agent_request.specs.Request.{in_use, free_request}
 use Rattle.agent_request.specs.declared.Request.{Request}
 use Rattle.agent_rules.specs.Life.{step_sends, release_sends, step_takes, release_takes}
@@ -75,7 +75,7 @@ aimed_at k false e z = rw e refl
 named_stored :
     (s : State) (n : ℕ) (verb : Request → Verb) (takes : Request → ℕ → Taken) (x : Bool) →
     leb SLOTS n ≡ x →
-    (if leb SLOTS n then refused 1 s else sent n (slot_at s n) (verb (slot_at s n)) (takes (slot_at s n)) s) ≡
+    (when leb SLOTS n then refused 1 s else sent n (slot_at s n) (verb (slot_at s n)) (takes (slot_at s n)) s) ≡
     stored s (within_board n)
     (named_visit n (slot_at s (within_board n)) s.words (sent_visit (slot_at s (within_board n)) (verb (slot_at s (within_board n))) (takes (slot_at s (within_board n))) s.words))
 unfolding named_visit

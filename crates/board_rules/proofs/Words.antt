@@ -5,14 +5,14 @@ use mathlib.Core.Path.{◌≡◌, refl}
 use mathlib.Core.Bool.{Bool, true, false, not}
 use mathlib.Core.List.{List}
 use lib.Dec.{ltb}
-use Rattle.common.specs.Choice.{if◌then◌else◌}
+use Rattle.common.specs.Choice.{when◌then◌else◌}
 use Rattle.agent_request.specs.declared.Request.{Request}
 use Rattle.agent_request.specs.Request.{in_use}
 use Rattle.board_rules.specs.Records.{is_record}
 use Rattle.board_rules.specs.Sent.{Visited}
 use Rattle.board_rules.specs.Visit.{open_visit, show_visit}
 
-three : (a b c : Bool) (ws : List ℕ) (p q r s : Visited) → p.words ≡ ws → q.words ≡ ws → r.words ≡ ws → s.words ≡ ws → (if a then p else if b then q else if c then r else s).words ≡ ws
+three : (a b c : Bool) (ws : List ℕ) (p q r s : Visited) → p.words ≡ ws → q.words ≡ ws → r.words ≡ ws → s.words ≡ ws → (when a then p else when b then q else when c then r else s).words ≡ ws
 three true b c ws p q r s w x y z = w
 three false true c ws p q r s w x y z = x
 three false false true ws p q r s w x y z = y

@@ -1,6 +1,6 @@
 -- The number, outcome, slot and value of every answer of the board, and the count of verbs.
 use Rattle.std.specs.Prelude.{ℕ, ◌%◌, Bool, true, false, ◌&&◌, eqb}
-use Rattle.common.specs.Choice.{if◌then◌else◌}
+use Rattle.common.specs.Choice.{when◌then◌else◌}
 use Rattle.agent_rules.specs.Answers.{numbers_of}
 use Rattle.board_call.specs.declared.Call.{Call}
 use Rattle.board_call.specs.declared.Call.TheVariants.{Open, Step, Release, Show}
@@ -36,4 +36,4 @@ sends_verb (Release i) = true
 sends_verb (Show r) = false
 
 unfoldable pub verbs_of : Call → Answer → ℕ
-verbs_of c a = if sends_verb c && eqb (said_of c a).number 0 then 1 else 0
+verbs_of c a = when sends_verb c && eqb (said_of c a).number 0 then 1 else 0

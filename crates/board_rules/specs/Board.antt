@@ -1,6 +1,6 @@
 -- The board: lent words and 256 slots, and what each call makes of them.
 use Rattle.std.specs.Prelude.{ℕ, not, ◌||◌, List, eqb, ltb, leb, length, get_or, set, replicate}
-use Rattle.common.specs.Choice.{if◌then◌else◌}
+use Rattle.common.specs.Choice.{when◌then◌else◌}
 use Rattle.agent_request.specs.Request.{free_request, opened_request}
 use Rattle.agent_request.specs.declared.Request.{Request}
 use Rattle.agent_rules.specs.Life.{left_by, step_sends, release_sends, step_takes, release_takes}
@@ -34,16 +34,16 @@ refused n s = record { slots = s.slots; words = s.words; answer = Refused n }
 -- Rules 4.3 and 5.1: Begin: 9 for 0 words or more than 4,096; else all lent words 0 and all slots free.
 unfoldable pub begun : State → Done
 begun s =
-    if eqb (length s.words) 0 || ltb RECORDS (length s.words)
+    when eqb (length s.words) 0 || ltb RECORDS (length s.words)
     then refused 9 s
     else record { slots = fresh_slots; words = replicate (length s.words) 0; answer = Begun }
 
 -- Rules 4.4 and 5.2: Open: 2, 3, 6 in this order; else the lowest free slot asks. No verb.
 unfoldable pub opened : ℕ → ℕ → State → Done
 opened r m s =
-    if not (is_record r s.words) then refused 2 s else
-    if ltb 1 m then refused 3 s else
-    if leb SLOTS (lowest_free s.slots) then refused 6 s else
+    when not (is_record r s.words) then refused 2 s else
+    when ltb 1 m then refused 3 s else
+    when leb SLOTS (lowest_free s.slots) then refused 6 s else
     record {
       slots = set s.slots (lowest_free s.slots) (opened_request r m);
       words = s.words;
@@ -54,7 +54,7 @@ opened r m s =
 -- request becomes what it makes of the word that was there.
 unfoldable pub sent : ℕ → Request → Verb → (ℕ → Taken) → State → Done
 sent i q verb takes s =
-    if eqb (refusal_of q verb s.words) 0
+    when eqb (refusal_of q verb s.words) 0
     then
     record {
       slots = set s.slots i (takes (get_or s.words q.«record» 0)).request;
@@ -69,15 +69,15 @@ slot_at s i = get_or s.slots i free_request
 
 -- Rules 4.5 and 5.2: Step: 1 for a slot above 255, then as above with the phase's verb.
 unfoldable pub stepped : ℕ → State → Done
-stepped i s = if leb SLOTS i then refused 1 s else sent i (slot_at s i) (step_sends (slot_at s i)) (step_takes (slot_at s i)) s
+stepped i s = when leb SLOTS i then refused 1 s else sent i (slot_at s i) (step_sends (slot_at s i)) (step_takes (slot_at s i)) s
 
 -- Rules 4.6 and 5.2: Release: the same with the release verb.
 unfoldable pub released : ℕ → State → Done
-released i s = if leb SLOTS i then refused 1 s else sent i (slot_at s i) (release_sends (slot_at s i)) (release_takes (slot_at s i)) s
+released i s = when leb SLOTS i then refused 1 s else sent i (slot_at s i) (release_sends (slot_at s i)) (release_takes (slot_at s i)) s
 
 -- Rules 4.7 and 5.2: Show: 2, else the word.
 unfoldable pub shown_of : ℕ → List ℕ → Answer
-shown_of r words = if is_record r words then Shown (get_or words r 0) else Refused 2
+shown_of r words = when is_record r words then Shown (get_or words r 0) else Refused 2
 
 -- It changes nothing.
 unfoldable pub shown : ℕ → State → Done

@@ -1,6 +1,6 @@
 -- A caretaker's turn on a slot, on slots and words alone: who may make it is said in `board_nodes`.
 use Rattle.std.specs.Prelude.{ℕ, ◌<◌, ◌≡◌, true, not, leb, get_or, set}
-use Rattle.common.specs.Choice.{if◌then◌else◌}
+use Rattle.common.specs.Choice.{when◌then◌else◌}
 use Rattle.agent_request.specs.Request.{phase_of, in_use, free_request}
 use Rattle.agent_request.specs.declared.Phase.TheVariants.{Asking, Waiting, Held, Owing, Clearing}
 use Rattle.agent_rules.specs.Life.{left_by}
@@ -19,9 +19,9 @@ word_of s i = get_or s.words (slot_at s i).«record» 0
 -- care makes of the word that was there. There is no 5: whatever the phase, something is done.
 unfoldable pub cared : ℕ → State → Done
 cared i s =
-    if leb SLOTS i then refused 1 s else
-    if not (in_use (slot_at s i)) then refused 4 s else
-    if not (is_record (slot_at s i).«record» s.words) then refused 2 s else
+    when leb SLOTS i then refused 1 s else
+    when not (in_use (slot_at s i)) then refused 4 s else
+    when not (is_record (slot_at s i).«record» s.words) then refused 2 s else
     record {
       slots = set s.slots i (care_takes (slot_at s i) (word_of s i)).request;
       words = set s.words (slot_at s i).«record» (left_by (care_sends (slot_at s i)) (word_of s i));

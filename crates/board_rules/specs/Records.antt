@@ -1,6 +1,6 @@
 -- Which numbers are records, and why a verb may not go out for a request.
 use Rattle.std.specs.Prelude.{ℕ, Bool, true, false, not, ◌&&◌, List, ltb, length}
-use Rattle.common.specs.Choice.{if◌then◌else◌}
+use Rattle.common.specs.Choice.{when◌then◌else◌}
 use Rattle.agent_request.specs.declared.Request.{Request}
 use Rattle.agent_rules.specs.declared.Verb.{Verb}
 use Rattle.agent_rules.specs.declared.Verb.TheVariants.{Nothing, Add, Read, Swap}
@@ -26,6 +26,6 @@ is_nothing (Swap old new) = false
 -- Rule 5.2: Why a verb may not go out for a request: 4, 5, 2 in this order, the last on the slot's own record; 0 where it may.
 unfoldable pub refusal_of : Request → Verb → List ℕ → ℕ
 refusal_of q verb ws =
-    if not (in_use q) then 4 else
-    if is_nothing verb then 5 else
-    if not (is_record q.«record» ws) then 2 else 0
+    when not (in_use q) then 4 else
+    when is_nothing verb then 5 else
+    when not (is_record q.«record» ws) then 2 else 0

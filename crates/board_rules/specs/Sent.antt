@@ -1,7 +1,7 @@
 -- A mirror of a part of `Board`: a verb sent for one request, and its result taken, without the table of slots. `VisitIsPlayed` (Promises) says
 -- that visiting a slot so is playing the call, so nothing here needs belief but `handed`: what a visit hands back is its request and its answer.
 use Rattle.std.specs.Prelude.{ℕ, List, eqb, get_or, set}
-use Rattle.common.specs.Choice.{if◌then◌else◌}
+use Rattle.common.specs.Choice.{when◌then◌else◌}
 use Rattle.agent_request.specs.declared.Request.{Request}
 use Rattle.agent_rules.specs.Life.{left_by}
 use Rattle.agent_rules.specs.declared.Verb.{Verb}
@@ -29,7 +29,7 @@ handed v = seen_as v.request v.answer
 
 unfoldable pub sent_visit : Request → Verb → (ℕ → Taken) → List ℕ → Visited
 sent_visit q verb takes ws =
-    if eqb (refusal_of q verb ws) 0
+    when eqb (refusal_of q verb ws) 0
     then
     visited
     (takes (get_or ws q.«record» 0)).request

@@ -1,6 +1,6 @@
 -- Which number a call is answered with, as a table: rule 5.1 for what each number means, rule 5.2 for the order. And what the numbers of an answer say.
 use Rattle.std.specs.Prelude.{ℕ, ◌<◌, ◌≤◌, ◌≡◌, Bool, true, not, ◌&&◌, ◌||◌, ◌↔◌, List, [], ◌∷◌, eqb, ltb, length, get_or}
-use Rattle.common.specs.Choice.{if◌then◌else◌}
+use Rattle.common.specs.Choice.{when◌then◌else◌}
 use Rattle.common.specs.Table.{Line, line, Gives, NoneApplies}
 use Rattle.agent_rules.specs.Table.{is_free, is_held}
 use Rattle.agent_rules.specs.declared.Answer.TheVariants as tells
@@ -111,7 +111,7 @@ ValueIsSaid = (c : Call) (s : State) → ((said_to c s).outcome ≡ 3 → ⊥) �
 abbrev pub VerbsAreCounted : Type 0
 VerbsAreCounted =
     (c : Call) (s : State) →
-    verbs_of c (played c s).answer ≡ (if eqb (said_to c s).number 0 && not (eqb (said_to c s).outcome 1 || eqb (said_to c s).outcome 10) then 1 else 0)
+    verbs_of c (played c s).answer ≡ (when eqb (said_to c s).number 0 && not (eqb (said_to c s).outcome 1 || eqb (said_to c s).outcome 10) then 1 else 0)
 
 -- Rule 4.7: an accepted show says the word, and changes nothing.
 abbrev pub ShowSaysTheWord : Type 0
@@ -123,23 +123,23 @@ ShowSaysTheWord =
 -- The answer that an outcome names, with the slot and the value beside it.
 abbrev pub outcome_named : ℕ → ℕ → ℕ → Answer
 outcome_named o k v =
-    if eqb o 1 then Opened k else
-    if eqb o 2 then Told tells.Granted else
-    if eqb o 3 then Told (tells.Waiting v) else
-    if eqb o 4 then Told tells.Full else
-    if eqb o 5 then Told tells.Withdrawn else
-    if eqb o 6 then Told tells.Released else
-    if eqb o 7 then Told tells.ClearingDue else
-    if eqb o 8 then Told tells.Cleared else
-    if eqb o 9 then Told tells.NotYetClear else
-    if eqb o 10 then Shown v else
-    if eqb o 11 then Told tells.Passed else
-    if eqb o 12 then Told tells.FreedUnasked else
-    if eqb o 13 then Fenced else Begun
+    when eqb o 1 then Opened k else
+    when eqb o 2 then Told tells.Granted else
+    when eqb o 3 then Told (tells.Waiting v) else
+    when eqb o 4 then Told tells.Full else
+    when eqb o 5 then Told tells.Withdrawn else
+    when eqb o 6 then Told tells.Released else
+    when eqb o 7 then Told tells.ClearingDue else
+    when eqb o 8 then Told tells.Cleared else
+    when eqb o 9 then Told tells.NotYetClear else
+    when eqb o 10 then Shown v else
+    when eqb o 11 then Told tells.Passed else
+    when eqb o 12 then Told tells.FreedUnasked else
+    when eqb o 13 then Fenced else Begun
 
 -- The answer that number, outcome, slot and value name.
 abbrev pub answer_named : Said → Answer
-answer_named d = if eqb d.number 0 then outcome_named d.outcome d.slot d.value else Refused d.number
+answer_named d = when eqb d.number 0 then outcome_named d.outcome d.slot d.value else Refused d.number
 
 -- What a call is answered is exactly what its numbers name. So whatever is promised of an answer is promised of its numbers, and the other way
 -- round.

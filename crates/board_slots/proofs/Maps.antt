@@ -14,7 +14,7 @@ use lib.Dec.{eqb, ltb}
 use lib.Pow.{pow_mono}
 use lib.ListN.{length, get_or, set, take, drop, length-take, length-drop, take-append-drop, length-set, drop_of_length-le}
 use lib.Seq.{drop-drop, drop-set-add, drop-set-lt, take-set-lt, take-set-le, ext_get_or, get_or-set_same, get_or-set_other, get_or-take, get_or-drop}
-use Rattle.common.specs.Choice.{if◌then◌else◌}
+use Rattle.common.specs.Choice.{when◌then◌else◌}
 use Rattle.common.proofs.Choices.{same_or_not}
 use Rattle.agent_request.specs.declared.Request.{Request}
 use Rattle.agent_request.specs.Request.{in_use, free_request}
@@ -27,7 +27,7 @@ first_part :
     (l : List Request) (base after : ℕ) →
     64 ≤ length l →
     after ≡ base + 64 + lowest_free (drop 64 l) →
-    (if eqb (bits_of (take 64 l)) ALL then after else base + count_trailing_zeros 64 (ALL - bits_of (take 64 l))) ≡ base + lowest_free l
+    (when eqb (bits_of (take 64 l)) ALL then after else base + count_trailing_zeros 64 (ALL - bits_of (take 64 l))) ≡ base + lowest_free l
 first_part l base after h e =
     let long : length (take 64 l) ≡ 64 = simp length-take (omega arith) in
     let whole = ap lowest_free (take-append-drop 64 l) in

@@ -8,7 +8,7 @@ use native.Mathlib.Omega.{arith}
 use borrow.Author.Tests.{leb-true, leb-false, eq-eqb, ne_eqb}
 use lib.Dec.{eqb, leb}
 use lib.ListN.{length}
-use Rattle.common.specs.Choice.{if◌then◌else◌}
+use Rattle.common.specs.Choice.{when◌then◌else◌}
 use Rattle.agent_request.specs.Request.{in_use}
 use Rattle.agent_request.specs.declared.Request.{Request}
 use Rattle.board_slots.specs.Slots.{lowest_free, used_slots}
@@ -19,16 +19,16 @@ unfolding used_slots
 used_le [] = omega arith
 used_le (q ∷ qs) = let i = used_le qs in by (in_use q) i
   where
-    by : (x : Bool) → used_slots qs ≤ length qs → (if x then suc (used_slots qs) else used_slots qs) ≤ suc (length qs)
+    by : (x : Bool) → used_slots qs ≤ length qs → (when x then suc (used_slots qs) else used_slots qs) ≤ suc (length qs)
     by true i = omega arith
     by false i = omega arith
 
 -- a slot in front of others: whether it is in use, and what is known of the others
-front_all : (x : Bool) (low used n : ℕ) → used ≤ n → low ≤ n → (low ≡ n → used ≡ n) → (if x then suc low else zero) ≡ suc n → (if x then suc used else used) ≡ suc n
+front_all : (x : Bool) (low used n : ℕ) → used ≤ n → low ≤ n → (low ≡ n → used ≡ n) → (when x then suc low else zero) ≡ suc n → (when x then suc used else used) ≡ suc n
 front_all true low used n u v i e = let j = i (omega arith) in omega arith
 front_all false low used n u v i e = omega arith
 
-front_none : (x : Bool) (low used n : ℕ) → used ≤ n → low ≤ n → (used ≡ n → low ≡ n) → (if x then suc used else used) ≡ suc n → (if x then suc low else zero) ≡ suc n
+front_none : (x : Bool) (low used n : ℕ) → used ≤ n → low ≤ n → (used ≡ n → low ≡ n) → (when x then suc used else used) ≡ suc n → (when x then suc low else zero) ≡ suc n
 front_none true low used n u v i e = let j = i (omega arith) in omega arith
 front_none false low used n u v i e = omega arith
 

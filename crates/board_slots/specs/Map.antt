@@ -2,13 +2,13 @@
 -- `MapFindsLowest`, `MapCountsUsed` and `MarkFollowsStore` (Promises) say that it tells the lowest free slot and the slots in use, and stays so.
 use Rattle.std.specs.Prelude.{ℕ, zero, ◌+◌, ◌*◌, ◌-◌, ◌^◌, ◌/◌, ◌%◌, List, [], ◌∷◌, eqb, take, drop, get_or, set}
 use Rattle.std.specs.Int.Count.{count_trailing_zeros, ones}
-use Rattle.common.specs.Choice.{if◌then◌else◌}
+use Rattle.common.specs.Choice.{when◌then◌else◌}
 use Rattle.agent_request.specs.declared.Request.{Request}
 use Rattle.agent_request.specs.Request.{in_use}
 
 -- A slot's bit.
 abbrev pub bit_of : Request → ℕ
-bit_of q = if in_use q then 1 else 0
+bit_of q = when in_use q then 1 else 0
 
 -- The bits of some slots as a number, the first slot's lowest.
 unfoldable pub bits_of : List Request → ℕ
@@ -28,7 +28,7 @@ ALL = 2 ^ 64 - 1
 
 -- The lowest zero of the part k, and what is said of the parts after it where it has none.
 abbrev pub or_after : List ℕ → ℕ → ℕ → ℕ
-or_after m k after = if eqb (get_or m k 0) ALL then after else 64 * k + count_trailing_zeros 64 (ALL - get_or m k 0)
+or_after m k after = when eqb (get_or m k 0) ALL then after else 64 * k + count_trailing_zeros 64 (ALL - get_or m k 0)
 
 -- The place of the lowest zero of a map; 256 where there is none.
 unfoldable pub lowest_zero : List ℕ → ℕ
@@ -45,6 +45,6 @@ plus m i d = set m (i / 64) ((get_or m (i / 64) 0 + d) % 2 ^ 64)
 -- A map after the request of the slot i changed: its bit is set, cleared or left.
 unfoldable pub marked_of : List ℕ → ℕ → Request → Request → List ℕ
 marked_of m i before after =
-    if in_use after
-    then (if in_use before then m else plus m i (2 ^ (i % 64)))
-    else (if in_use before then plus m i (2 ^ 64 - 2 ^ (i % 64)) else m)
+    when in_use after
+    then (when in_use before then m else plus m i (2 ^ (i % 64)))
+    else (when in_use before then plus m i (2 ^ 64 - 2 ^ (i % 64)) else m)

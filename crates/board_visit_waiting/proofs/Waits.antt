@@ -9,7 +9,7 @@ use borrow.Author.Tests.{eqb-true, lt-leb}
 use lib.Dec.{eqb, ltb, leb}
 use lib.ListN.{get_or, set}
 use lib.Seq.{set-get_or}
-use Rattle.common.specs.Choice.{if◌then◌else◌}
+use Rattle.common.specs.Choice.{when◌then◌else◌}
 use Rattle.word_layout.specs.Word.{split_of}
 use Rattle.agent_ticket.specs.Turn.{turn_of}
 use Rattle.agent_ticket.specs.declared.Turn.{Turn}
@@ -36,7 +36,7 @@ use Rattle.board_visit_waiting.specs.Waits.{is_waiting, number_ahead, still_ahea
 -- the one test of the phase that a waiting request passes
 choice :
     (a b c d e : Bool) →
-    is_waiting (if a then Asking else if b then Waiting else if c then Held else if d then Owing else if e then Clearing else Free) ≡ true →
+    is_waiting (when a then Asking else when b then Waiting else when c then Held else when d then Owing else when e then Clearing else Free) ≡ true →
     b ≡ true
 choice true true c d e h = refl
 choice true false c d e h = h
@@ -52,7 +52,7 @@ waits_as_2 n h = eqb-true n 2 (choice (eqb n 1) (eqb n 2) (eqb n 3) (eqb n 4) (e
 -- where the number is not 0 the gate is open, the request waits and has a record, and the number is that of its turn
 all_hold :
     (s w r : Bool) (k n : ℕ) →
-    (if s then 0 else if not w then 0 else if not r then 0 else k) ≡ n →
+    (when s then 0 else when not w then 0 else when not r then 0 else k) ≡ n →
     (n ≡ 0 → ⊥) →
     (s ≡ false) × (w ≡ true) × (r ≡ true) × (k ≡ n)
 all_hold false true true k n e ne = (refl, refl, refl, e)
@@ -105,7 +105,7 @@ still_visit shut q ws n e ne =
     )
 
 -- a call that steps a slot of the board is the step of that slot
-within_named : (b : Bool) (j k : ℕ) → (if b then SLOTS else j) ≡ k → k < SLOTS → j ≡ k
+within_named : (b : Bool) (j k : ℕ) → (when b then SLOTS else j) ≡ k → k < SLOTS → j ≡ k
 within_named true j k e small = absurd (omega arith)
 within_named false j k e small = e
 

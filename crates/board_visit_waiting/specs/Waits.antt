@@ -1,7 +1,7 @@
 -- A mirror of a part of `Visit`: the step of a request that waits and goes on waiting, and how many are ahead of it. Nothing here needs belief:
 -- `WaitingIsTheVisit`, at the end, says that such a step is the visit, and leaves the request and the words.
 use Rattle.std.specs.Prelude.{ℕ, ◌<◌, ◌≡◌, Bool, true, false, not, List, leb, get_or}
-use Rattle.common.specs.Choice.{if◌then◌else◌}
+use Rattle.common.specs.Choice.{when◌then◌else◌}
 use Rattle.word_layout.specs.Word.{split_of}
 use Rattle.agent_ticket.specs.Turn.{turn_of}
 use Rattle.agent_ticket.specs.declared.Turn.{Turn}
@@ -39,14 +39,14 @@ number_ahead (Ahead n) = n
 -- waits no longer.
 unfoldable pub still_ahead : Bool → Request → List ℕ → ℕ
 still_ahead shut q ws =
-    if shut then 0 else
-    if not (is_waiting (phase_of q.phase)) then 0 else
-    if not (is_record q.«record» ws) then 0 else number_ahead (turn_of (mode_of q.mode) q.ticket (split_of (get_or ws q.«record» 0)))
+    when shut then 0 else
+    when not (is_waiting (phase_of q.phase)) then 0 else
+    when not (is_record q.«record» ws) then 0 else number_ahead (turn_of (mode_of q.mode) q.ticket (split_of (get_or ws q.«record» 0)))
 
 -- The slot of the board that a call steps; as many as there are slots where it steps none. A care is no step here, whatever it makes.
 abbrev pub stepped_slot : AnyCall → ℕ
 stepped_slot (Base (Open r m)) = SLOTS
-stepped_slot (Base (Step n)) = if leb SLOTS n then SLOTS else n
+stepped_slot (Base (Step n)) = when leb SLOTS n then SLOTS else n
 stepped_slot (Base (Release n)) = SLOTS
 stepped_slot (Base (Show r)) = SLOTS
 stepped_slot (OpenAs r m k) = SLOTS

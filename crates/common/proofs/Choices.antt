@@ -6,13 +6,13 @@ use mathlib.Core.Bool.{Bool, true, false}
 use mathlib.Core.Logic.{◌⊎◌, inl, inr}
 use borrow.Author.Tests.{eqb-true, eqb-false}
 use lib.Dec.{eqb}
-use Rattle.common.specs.Choice.{if◌then◌else◌}
+use Rattle.common.specs.Choice.{when◌then◌else◌}
 
-pub either : {A : Type 0} (P : A → Type 0) {a b : A} (x : Bool) → P a → P b → P (if x then a else b)
+pub either : {A : Type 0} (P : A → Type 0) {a b : A} (x : Bool) → P a → P b → P (when x then a else b)
 either P true p q = p
 either P false p q = q
 
-pub either_by : {A : Type 0} (P : A → Type 0) {a b : A} (x : Bool) → (x ≡ true → P a) → (x ≡ false → P b) → P (if x then a else b)
+pub either_by : {A : Type 0} (P : A → Type 0) {a b : A} (x : Bool) → (x ≡ true → P a) → (x ≡ false → P b) → P (when x then a else b)
 either_by P true p q = p refl
 either_by P false p q = q refl
 

@@ -1,7 +1,7 @@
--- A choice by a test, as the rules are written: if .. then .. else ..
+-- A choice by a test, as the rules are written: when .. then .. else .., which goes on to the right, as a list of cases does (the library's `if` does not).
 use Rattle.std.specs.Prelude.{Bool, true, false}
 
-infixr 5 if◌then◌else◌
-abbrev pub if◌then◌else◌ : {A : Type 0} → Bool → A → A → A
-if◌then◌else◌ true a b = a
-if◌then◌else◌ false a b = b
+infixr 5 when◌then◌else◌
+abbrev pub when◌then◌else◌ : {A : Type 0} → Bool → A → A → A
+when◌then◌else◌ true a b = a
+when◌then◌else◌ false a b = b

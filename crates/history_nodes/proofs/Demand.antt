@@ -11,7 +11,7 @@ use native.Mathlib.Omega.{arith}
 use borrow.Author.Tests.{eqb-false, ltb-false}
 use lib.Dec.{eqb, ltb}
 use lib.ListN.{length, length-set, length-replicate}
-use Rattle.common.specs.Choice.{if◌then◌else◌}
+use Rattle.common.specs.Choice.{when◌then◌else◌}
 use Rattle.common.proofs.Choices.{either_by}
 use Rattle.agent_rules.specs.Answers.{numbers_of}
 use Rattle.agent_rules.specs.declared.Answer.{Answer as Tells}
@@ -304,7 +304,7 @@ abbrev Long : Site → Ledger → Type 0
 Long t L = (length t.nodes ≡ SLOTS) × (length t.fenced ≡ NODES)
 
 long_behind :
-    (t : Site) (L M : Ledger) → Long t L → (n i k : ℕ) (d : Done) (x : Bool) → Long (site_of (if x then refused_at n t else around t i k d)) M
+    (t : Site) (L M : Ledger) → Long t L → (n i k : ℕ) (d : Done) (x : Bool) → Long (site_of (when x then refused_at n t else around t i k d)) M
 long_behind t L M l n i k d true = l
 long_behind t L M l n i k d false = (length-set t.nodes i _ ∙ l.0, l.1)
 

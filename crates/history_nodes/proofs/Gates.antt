@@ -10,7 +10,7 @@ use native.Mathlib.Omega.{arith}
 use borrow.Author.Tests.{ltb-true, ltb-false, lt-ltb}
 use lib.Dec.{ltb}
 use lib.ListN.{length}
-use Rattle.common.specs.Choice.{if◌then◌else◌}
+use Rattle.common.specs.Choice.{when◌then◌else◌}
 use Rattle.agent_request.specs.Request.{in_use}
 use Rattle.agent_request.specs.declared.Request.{Request}
 use Rattle.board_slots.specs.Slots.{SLOTS, lowest_free}
@@ -35,11 +35,11 @@ use Rattle.history_nodes.specs.Promises.{plain, AsPlain, FencedSlotIsCaredFor, L
 use Rattle.history_nodes.specs.Promises.{Gates}
 
 -- the answer behind a gate that stops, and behind one that lets through
-shut : (x : Bool) (d e : SiteDone) → x ≡ true → (if x then d else e).answer ≡ d.answer
+shut : (x : Bool) (d e : SiteDone) → x ≡ true → (when x then d else e).answer ≡ d.answer
 shut true d e h = refl
 shut false d e h = clash false h refl
 
-open_way : (x : Bool) (d e : SiteDone) → x ≡ false → (if x then d else e).answer ≡ e.answer
+open_way : (x : Bool) (d e : SiteDone) → x ≡ false → (when x then d else e).answer ≡ e.answer
 open_way true d e h = clash true refl h
 open_way false d e h = refl
 
@@ -132,13 +132,13 @@ module _ {n : ℕ} (t : Site) {L : Ledger} (T : Tied n (inner t) L) where
     -- 2, 3 and 14, in this order
     by_tests :
         (x y z : Bool) (i : ℕ) (d : Done) → z ≡ true →
-        (if x && (not y && z) then refused_at 14 t else around t i k (if not x then refused 2 (inner t) else if y then refused 3 (inner t) else d)).answer ≡
-        (if not x then Refused 2 else if y then Refused 3 else Refused 14)
+        (when x && (not y && z) then refused_at 14 t else around t i k (when not x then refused 2 (inner t) else when y then refused 3 (inner t) else d)).answer ≡
+        (when not x then Refused 2 else when y then Refused 3 else Refused 14)
     by_tests false y z i d e = refl
     by_tests true true z i d e = refl
     by_tests true false z i d e = rw e refl
 
-    fenced_told : fenced_at t k ≡ true → says t (OpenAs r m k) ≡ (if not (is_record r t.words) then Refused 2 else if ltb 1 m then Refused 3 else Refused 14)
+    fenced_told : fenced_at t k ≡ true → says t (OpenAs r m k) ≡ (when not (is_record r t.words) then Refused 2 else when ltb 1 m then Refused 3 else Refused 14)
     unfolding opened_by opened
     fenced_told e = by_tests (is_record r t.words) (ltb 1 m) (fenced_at t k) (lowest_free t.slots) _ e
 
@@ -157,7 +157,7 @@ module _ {n : ℕ} (t : Site) {L : Ledger} (T : Tied n (inner t) L) where
 
         by :
             (x y : Bool) → is_record r t.words ≡ x → ltb 1 m ≡ y →
-            says t (OpenAs r m k) ≡ (if not x then Refused 2 else if y then Refused 3 else Refused 14) →
+            says t (OpenAs r m k) ≡ (when not x then Refused 2 else when y then Refused 3 else Refused 14) →
             ((x : ℕ) × (says t (OpenAs r m k) ≡ Refused x)) × ((says t (OpenAs r m k) ≡ Refused 14) ↔ ((r < n) × (m ≤ 1)))
         by true false p q told = ((14, told), ((λ z. (is_record_law p, ltb-false 1 m q)), (λ z. told)))
         by true true p q told =

@@ -8,7 +8,7 @@ use mathlib.Core.Bool.{Bool, true, false, not, ◌||◌}
 use mathlib.Core.List.{List, [], ◌∷◌, ◌++◌}
 use lib.Dec.{eqb, ltb}
 use lib.ListN.{length}
-use Rattle.common.specs.Choice.{if◌then◌else◌}
+use Rattle.common.specs.Choice.{when◌then◌else◌}
 use Rattle.board_call.specs.declared.Call.TheVariants.{Open, Step, Release, Show}
 use Rattle.board_call.specs.declared.AnyCall.TheVariants as any
 use Rattle.board_rules.specs.Records.{RECORDS}
@@ -25,7 +25,7 @@ use Rattle.history_nodes.specs.Promises.{HistoriesGoInward}
 
 -- the call inside, unless the gate stops it
 abbrev unless : Bool → Move → List Move
-unless stopped m = if stopped then [] else m ∷ []
+unless stopped m = when stopped then [] else m ∷ []
 
 abbrev pub inside_of : AnyMove → Site → List Move
 inside_of BeginAt t = Begin ∷ []
@@ -59,7 +59,7 @@ pub record Inside (m : AnyMove) (t : Site) (d : SiteDone) (ms : List Move) : Typ
 behind :
     (o : AnyMove) (m : Move) (t : Site) (n i k : ℕ) →
     ((L : Ledger) (d : Done) → noted_at o d.answer L ≡ noted m d.answer L) →
-    (x : Bool) → Inside o t (if x then refused_at n t else around t i k (made m (inner t))) (unless x m)
+    (x : Bool) → Inside o t (when x then refused_at n t else around t i k (made m (inner t))) (unless x m)
 unfolding after events read_off
 behind o m t n i k same true = record { board = refl; ledger = λ L. same L (refused n (inner t)) ∙ refused_noted m n L }
 behind o m t n i k same false = record { board = refl; ledger = λ L. same L (made m (inner t)) }

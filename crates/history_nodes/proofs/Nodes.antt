@@ -9,7 +9,7 @@ use mathlib.Core.List.{List}
 use native.Mathlib.Omega.{arith}
 use lib.ListN.{get_or, set}
 use lib.Seq.{get_or-set_same, get_or-set_other, set-get_or}
-use Rattle.common.specs.Choice.{if◌then◌else◌}
+use Rattle.common.specs.Choice.{when◌then◌else◌}
 use Rattle.common.proofs.Choices.{either, same_or_not}
 use Rattle.agent_request.specs.Request.{in_use, free_request}
 use Rattle.board_slots.specs.Slots.{lowest_free}
@@ -76,7 +76,7 @@ module _ (t : Site) (i : ℕ) (before : in_use (slot_at (inner t) i) ≡ true) w
   abbrev Keeps : SiteDone → Type 0
   Keeps d = in_use (slot_at (inner (site_of d)) i) ≡ true → node_at (site_of d) i ≡ node_at t i
 
-  kept : (x y : Bool) (k n : ℕ) → x ≡ true → y ≡ true → (if y then (if x then n else k) else (if x then 0 else n)) ≡ n
+  kept : (x y : Bool) (k n : ℕ) → x ≡ true → y ≡ true → (when y then (when x then n else k) else (when x then 0 else n)) ≡ n
   kept x y k n p q = rw (p, q) refl
 
   around_keeps : (j k : ℕ) (d : Done) → Keeps (around t j k d)
@@ -93,7 +93,7 @@ module _ (t : Site) (i : ℕ) (before : in_use (slot_at (inner t) i) ≡ true) w
           subst (λ (x : ℕ). get_or (set t.nodes x (node x)) i 0 ≡ node_at t i) e
           (ap (λ (n : ℕ). get_or (set t.nodes i n) i 0) own ∙ ap (λ (l : List ℕ). get_or l i 0) (set-get_or t.nodes i 0))
 
-  behind_keeps : (n j k : ℕ) (d : Done) (x : Bool) → Keeps (if x then refused_at n t else around t j k d)
+  behind_keeps : (n j k : ℕ) (d : Done) (x : Bool) → Keeps (when x then refused_at n t else around t j k d)
   behind_keeps n j k d x = either Keeps x (λ used. refl) (around_keeps j k d)
 
   call_keeps : (o : AnyCall) → Keeps (played_at o t)

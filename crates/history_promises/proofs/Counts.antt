@@ -8,7 +8,7 @@ use mathlib.Core.List.{List, [], ◌∷◌, ◌++◌}
 use native.Mathlib.Nat.{eq-or-lt_of_le}
 use native.Mathlib.Omega.{arith}
 use lib.ListN.{length, get_or, set, take}
-use Rattle.common.specs.Choice.{if◌then◌else◌}
+use Rattle.common.specs.Choice.{when◌then◌else◌}
 use Rattle.history_promises.specs.Tickets.{counted}
 use Rattle.history_promises.specs.Ledger.{one, below}
 
@@ -31,7 +31,7 @@ module _ {A : Type 0} (f : A → Bool) where
   unfolding counted
   counted_cons a l = by (f a) refl
     where
-      by : (x : Bool) → f a ≡ x → (if f a then suc (counted f l) else counted f l) ≡ one (f a) + counted f l
+      by : (x : Bool) → f a ≡ x → (when f a then suc (counted f l) else counted f l) ≡ one (f a) + counted f l
       by true e = rw e (omega arith)
       by false e = rw e (omega arith)
 

@@ -12,7 +12,7 @@ use borrow.Author.Tests.{leb-true, leb-false, ltb-true, ltb-false, eqb-true, eq-
 use lib.Dec.{eqb, leb, ltb}
 use lib.ListN.{length, take}
 use lib.Seq.{take-append_seam, take-length}
-use Rattle.common.specs.Choice.{if◌then◌else◌}
+use Rattle.common.specs.Choice.{when◌then◌else◌}
 use Rattle.common.proofs.Choices.{either_by, same_or_not}
 use Rattle.agent_ticket.specs.declared.Mode.{Mode}
 use Rattle.agent_ticket.specs.declared.Mode.TheVariants.{Reader, Writer}
@@ -46,7 +46,7 @@ use Rattle.history_promises.proofs.Seats.{in_board, lent_to_law, facts_of, seat_
 use Rattle.history_promises.proofs.Seats.{CareIs, care_of_law, care_told_law, care_same}
 
 -- an answer that one way gives, and the other does not
-picked : (x : Bool) (d e : Done) (a : Answer) → d.answer ≡ a → (e.answer ≡ a → ⊥) → ((if x then d else e).answer ≡ a) ↔ (x ≡ true)
+picked : (x : Bool) (d e : Done) (a : Answer) → d.answer ≡ a → (e.answer ≡ a → ⊥) → ((when x then d else e).answer ≡ a) ↔ (x ≡ true)
 picked true d e a p q = ((λ h. refl), (λ h. p))
 picked false d e a p q = ((λ h. absurd (q h)), (λ h. clash false h refl))
 
@@ -140,7 +140,7 @@ module _ {n : ℕ} {s : State} {L : Ledger} (T : Tied n s L) where
       let p = picked x _ _ (Told tells.Granted) refl (no_waiting _) in
       ((λ h. not_full x _ _ _ _ _ (sym eq ∙ h)), ((λ h. p.0 (sym eq ∙ h)), (λ h. eq ∙ p.1 h)))
     where
-      not_full : (x : Bool) (q q' : _) (w w' m : ℕ) → (if x then went s i (L.seats i).about q w tells.Granted else went s i (L.seats i).about q' w' (tells.Waiting m)).answer ≡ Told tells.Full → ⊥
+      not_full : (x : Bool) (q q' : _) (w w' m : ℕ) → (when x then went s i (L.seats i).about q w tells.Granted else went s i (L.seats i).about q' w' (tells.Waiting m)).answer ≡ Told tells.Full → ⊥
       not_full true q q' w w' m h = let z : ◌≡◌ {A = ℕ} 0 1 = cc in absurd (omega arith)
       not_full false q q' w w' m h = let z : ◌≡◌ {A = ℕ} 0 1 = cc in absurd (omega arith)
 
@@ -200,7 +200,7 @@ module _ {n : ℕ} {s : State} {L : Ledger} (T : Tied n s L) where
         by false e = let here = leb-false SLOTS i e in step_not i here (L.seats i).stage refl (λ q. c here q)
 
   -- a step of a slot that clears
-  clears_told : (i : ℕ) → (L.seats i).stage ≡ Clears → (stepped i s).answer ≡ (if eqb (word_now s L i) (word_at_rest (mine L i)) then Told tells.Cleared else Told tells.NotYetClear)
+  clears_told : (i : ℕ) → (L.seats i).stage ≡ Clears → (stepped i s).answer ≡ (when eqb (word_now s L i) (word_at_rest (mine L i)) then Told tells.Cleared else Told tells.NotYetClear)
   clears_told i e =
       let here = in_board T i Clears e refl in
       let lent = lent_to_law T i Clears e refl in
@@ -209,7 +209,7 @@ module _ {n : ℕ} {s : State} {L : Ledger} (T : Tied n s L) where
       ap (λ (d : Done). d.answer) (step_clears s i here (L.seats i) (mine L i) (omega (arith, T.words_long)) (omega (arith, T.most)) (keeps_at T i here Clears e) rest) ∙
       by (eqb (word_now s L i) (word_at_rest (mine L i))) _ _
     where
-      by : (x : Bool) (d d' : Done) → (if x then d else d').answer ≡ (if x then d.answer else d'.answer)
+      by : (x : Bool) (d d' : Done) → (when x then d else d').answer ≡ (when x then d.answer else d'.answer)
       by true d d' = refl
       by false d d' = refl
 
@@ -279,7 +279,7 @@ module _ {n : ℕ} {s : State} {L : Ledger} (T : Tied n s L) where
       clears_or_not Holds = inr (λ e. let z : ◌≡◌ {A = ℕ} 0 1 = cc in absurd (omega arith))
       clears_or_not Owes = inr (λ e. let z : ◌≡◌ {A = ℕ} 0 1 = cc in absurd (omega arith))
 
-      rested : (x : Bool) → (if x then Told tells.Cleared else Told tells.NotYetClear) ≡ Told tells.Cleared → x ≡ true
+      rested : (x : Bool) → (when x then Told tells.Cleared else Told tells.NotYetClear) ≡ Told tells.Cleared → x ≡ true
       rested true q = refl
       rested false q = let z : ◌≡◌ {A = ℕ} 0 1 = cc in absurd (omega arith)
 
@@ -343,7 +343,7 @@ module _ {n : ℕ} {s : State} {L : Ledger} (T : Tied n s L) where
       P d = OpenTells n L r m d.answer
 
   -- who is told to wait is told how many tickets it waits for
-  told_number_law : (x : Bool) (d e : Done) (a m : ℕ) → d.answer ≡ Told tells.Granted → e.answer ≡ Told (tells.Waiting a) → (if x then d else e).answer ≡ Told (tells.Waiting m) → m ≡ a
+  told_number_law : (x : Bool) (d e : Done) (a m : ℕ) → d.answer ≡ Told tells.Granted → e.answer ≡ Told (tells.Waiting a) → (when x then d else e).answer ≡ Told (tells.Waiting m) → m ≡ a
   told_number_law true d e a m p q h = absurd (no_waiting m (sym h ∙ p))
   told_number_law false d e a m p q h = same_number (sym h ∙ q)
     where

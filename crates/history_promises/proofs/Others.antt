@@ -12,7 +12,7 @@ use lib.Dec.{eqb, ltb}
 use lib.ListN.{length, take, length-append, length-set, get_or-append}
 use lib.Seq.{take-append-le, take-set-le, take-set-lt, get_or-take, get_or-set_same, get_or-set_other, length-take-le}
 use Rattle.common.proofs.Choices.{same_or_not}
-use Rattle.common.specs.Choice.{if◌then◌else◌}
+use Rattle.common.specs.Choice.{when◌then◌else◌}
 use Rattle.agent_ticket.specs.declared.Mode.{Mode}
 use Rattle.agent_ticket.specs.declared.Mode.TheVariants.{Reader, Writer}
 use Rattle.agent_request.specs.declared.Request.{Request}
@@ -59,7 +59,7 @@ sits_on n t l m j stay q s = let v = stay s.facts in record { keeps = s.keeps �
 same_numbers : (l m : List Given) (p : ℕ) → ((k : Mode) → given_of k (take p m) ≡ given_of k (take p l)) → ticket_of m p ≡ ticket_of l p
 same_numbers l m p e = let w = e Writer in let r = e Reader in cc
 
-never : (x : Bool) (w : ℕ) → (if x && false then w else 0) ≡ 0
+never : (x : Bool) (w : ℕ) → (when x && false then w else 0) ≡ 0
 never true w = refl
 never false w = refl
 

@@ -10,7 +10,7 @@ use native.Mathlib.Omega.{arith}
 use borrow.Author.Tests.{leb-true, leb-false, ltb-false, eqb-false, ne_eqb}
 use lib.Dec.{eqb, leb, ltb}
 use lib.ListN.{length, set}
-use Rattle.common.specs.Choice.{if◌then◌else◌}
+use Rattle.common.specs.Choice.{when◌then◌else◌}
 use Rattle.common.proofs.Choices.{either_by}
 use Rattle.agent_ticket.specs.declared.Mode.{Mode}
 use Rattle.agent_ticket.specs.declared.Mode.TheVariants.{Reader, Writer}
@@ -122,13 +122,13 @@ module _ {n : ℕ} {s : State} {L : Ledger} (T : Tied n s L) where
   -- clearing is due by the youngest ticket at the ceiling, and by no other
   let_go_told :
       (i : ℕ) → (L.seats i).stage ≡ Holds →
-      (released i s).answer ≡ (if eqb (clearing_for (mine L i) (L.seats i).place) 0 then Told tells.Released else Told tells.ClearingDue)
+      (released i s).answer ≡ (when eqb (clearing_for (mine L i) (L.seats i).place) 0 then Told tells.Released else Told tells.ClearingDue)
   let_go_told i e =
       let lent = lent_to_law i Holds e refl in
       ap (λ (d : Done). d.answer) (release_holds s i (in_board i Holds e refl) (L.seats i) (mine L i) (omega (arith, T.words_long)) (omega (arith, T.most)) (keeps_at T i (in_board i Holds e refl) Holds e)) ∙
       by (eqb (clearing_for (mine L i) (L.seats i).place) 0) _ _
     where
-      by : (x : Bool) (d d' : Done) → (if x then d else d').answer ≡ (if x then d.answer else d'.answer)
+      by : (x : Bool) (d d' : Done) → (when x then d else d').answer ≡ (when x then d.answer else d'.answer)
       by true d d' = refl
       by false d d' = refl
 
@@ -144,7 +144,7 @@ module _ {n : ℕ} {s : State} {L : Ledger} (T : Tied n s L) where
             let_go_told i e ∙ rw (ne_eqb (clearing_for (mine L i) (L.seats i).place) 0 (λ z. rest_is_some (mine L i) top (sym (clearing_last (mine L i) (L.seats i).place last top) ∙ z))) refl),
       )
     where
-      kept : (x : Bool) → (if x then Told tells.Released else Told tells.ClearingDue) ≡ Told tells.ClearingDue → x ≡ false
+      kept : (x : Bool) → (when x then Told tells.Released else Told tells.ClearingDue) ≡ Told tells.ClearingDue → x ≡ false
       kept false q = refl
       kept true q = let z : ◌≡◌ {A = ℕ} 0 1 = cc in absurd (omega arith)
 

@@ -9,7 +9,7 @@ use borrow.Author.Tests.{lt-leb, lt-ltb}
 use lib.Dec.{eqb}
 use lib.ListN.{length, get_or, set, length-append}
 use lib.Seq.{take-append_seam, get_or-append_seam}
-use Rattle.common.specs.Choice.{if◌then◌else◌}
+use Rattle.common.specs.Choice.{when◌then◌else◌}
 use Rattle.word_layout.specs.Word.{step_of, back_of, split_of, add_of, swap_of}
 use Rattle.word_layout.specs.declared.Counters.{Counters}
 use Rattle.agent_ticket.specs.Turn.{turn_of}
@@ -148,7 +148,7 @@ module _ (s : State) (i : ℕ) (here : i < SLOTS) where
     pub step_clears :
         slot_at s i ≡ request_for Clears t l → clearing_for l t.place ≡ word_at_rest l →
         stepped i s ≡
-        (if eqb (get_or s.words t.about 0) (word_at_rest l)
+        (when eqb (get_or s.words t.about 0) (word_at_rest l)
         then went s i t.about free_request 0 tells.Cleared
         else went s i t.about (with_ticket Clearing t l) (get_or s.words t.about 0) tells.NotYetClear)
     unfolding step_sends step_takes
@@ -163,7 +163,7 @@ module _ (s : State) (i : ℕ) (here : i < SLOTS) where
         by :
             (x : Bool) → eqb (get_or s.words t.about 0) (word_at_rest l) ≡ x →
             went s i t.about (step_takes kept (get_or s.words t.about 0)).request (swap_of (get_or s.words t.about 0) (word_at_rest l) 0) (step_takes kept (get_or s.words t.about 0)).answer ≡
-            (if eqb (get_or s.words t.about 0) (word_at_rest l)
+            (when eqb (get_or s.words t.about 0) (word_at_rest l)
             then went s i t.about free_request 0 tells.Cleared
             else went s i t.about kept (get_or s.words t.about 0) tells.NotYetClear)
         by true q = rw q refl
@@ -173,7 +173,7 @@ module _ (s : State) (i : ℕ) (here : i < SLOTS) where
     pub release_holds :
         slot_at s i ≡ request_for Holds t l →
         released i s ≡
-        (if eqb (clearing_for l t.place) 0
+        (when eqb (clearing_for l t.place) 0
         then went s i t.about free_request (add_of (get_or s.words t.about 0) (step_of (release_counter t.kind))) tells.Released
         else went s i t.about (with_ticket Clearing t l) (add_of (get_or s.words t.about 0) (step_of (release_counter t.kind))) tells.ClearingDue)
     unfolding release_sends release_takes
@@ -185,7 +185,7 @@ module _ (s : State) (i : ℕ) (here : i < SLOTS) where
         by :
             (x : Bool) → eqb (clearing_for l t.place) 0 ≡ x →
             went s i t.about (release_takes (request_for Holds t l) (get_or s.words t.about 0)).request (add_of (get_or s.words t.about 0) (step_of (release_counter t.kind))) (release_takes (request_for Holds t l) (get_or s.words t.about 0)).answer ≡
-            (if eqb (clearing_for l t.place) 0
+            (when eqb (clearing_for l t.place) 0
             then went s i t.about free_request (add_of (get_or s.words t.about 0) (step_of (release_counter t.kind))) tells.Released
             else went s i t.about (with_ticket Clearing t l) (add_of (get_or s.words t.about 0) (step_of (release_counter t.kind))) tells.ClearingDue)
         by true q = rw q refl
@@ -197,13 +197,13 @@ module _ (s : State) (i : ℕ) (here : i < SLOTS) where
       turned_at :
           (q : Request) (k : Mode) (n v : ℕ) → turn_of k q.ticket (split_of (get_or s.words t.about 0)) ≡ behind n →
           went s i t.about (turned (turn_of k q.ticket (split_of (get_or s.words t.about 0))) q).request v (turned (turn_of k q.ticket (split_of (get_or s.words t.about 0))) q).answer ≡
-          (if eqb n 0 then went s i t.about (in_phase Held q) v tells.Granted else went s i t.about (in_phase Waiting q) v (tells.Waiting n))
+          (when eqb n 0 then went s i t.about (in_phase Held q) v tells.Granted else went s i t.about (in_phase Waiting q) v (tells.Waiting n))
       turned_at q k n v e = rw e (by (eqb n 0) refl)
         where
           by :
               (x : Bool) → eqb n 0 ≡ x →
               went s i t.about (turned (behind n) q).request v (turned (behind n) q).answer ≡
-              (if eqb n 0 then went s i t.about (in_phase Held q) v tells.Granted else went s i t.about (in_phase Waiting q) v (tells.Waiting n))
+              (when eqb n 0 then went s i t.about (in_phase Held q) v tells.Granted else went s i t.about (in_phase Waiting q) v (tells.Waiting n))
           by true z = rw z refl
           by false z = rw z refl
 
@@ -211,7 +211,7 @@ module _ (s : State) (i : ℕ) (here : i < SLOTS) where
       pub step_waits :
           slot_at s i ≡ request_for Waits t l → Owns t l i →
           stepped i s ≡
-          (if eqb (ahead_now t.kind l t.place) 0
+          (when eqb (ahead_now t.kind l t.place) 0
           then went s i t.about (with_ticket Held t l) (get_or s.words t.about 0) tells.Granted
           else went s i t.about (with_ticket Waiting t l) (get_or s.words t.about 0) (tells.Waiting (ahead_now t.kind l t.place)))
       unfolding step_sends step_takes
@@ -277,7 +277,7 @@ module _ (s : State) (i : ℕ) (here : i < SLOTS) where
         pub step_asks_turn :
             slot_at s i ≡ request_for Asks t l →
             stepped i s ≡
-            (if eqb (ahead_now t.kind longer (length l)) 0
+            (when eqb (ahead_now t.kind longer (length l)) 0
             then went s i t.about (with_ticket Held (at_last Holds) longer) (add_of (get_or s.words t.about 0) (step_of (ticket_counter t.kind))) tells.Granted
             else went s i t.about (with_ticket Waiting (at_last Waits) longer) (add_of (get_or s.words t.about 0) (step_of (ticket_counter t.kind))) (tells.Waiting (ahead_now t.kind longer (length l))))
         step_asks_turn e =

@@ -11,7 +11,7 @@ use native.Mathlib.Omega.{arith}
 use borrow.Author.Tests.{leb-true, leb-false, le-leb, lt-leb, eqb-true, eqb-false, eq-eqb}
 use lib.Dec.{eqb, leb}
 use lib.ListN.{length, length-append}
-use Rattle.common.specs.Choice.{if◌then◌else◌}
+use Rattle.common.specs.Choice.{when◌then◌else◌}
 use Rattle.word_layout.specs.Word.{step_of, back_of, held_by, split_of, join_of, add_of}
 use Rattle.word_layout.specs.Promises.{Narrow, changed}
 use Rattle.word_layout.specs.declared.Counters.{Counters}
@@ -235,7 +235,7 @@ agrees_empty o nil =
 
 -- The clearing word of the ticket at a place: only the last one of a record that has reached the ceiling has one.
 abbrev pub clearing_for : List Given → ℕ → ℕ
-clearing_for l p = if topped l && eqb (suc p) (length l) then rest_of (record { 0 = given_of Writer l }) (record { 0 = given_of Reader l }) else 0
+clearing_for l p = when topped l && eqb (suc p) (length l) then rest_of (record { 0 = given_of Writer l }) (record { 0 = given_of Reader l }) else 0
 
 -- it is the one that the rules give with a ticket
 module _ (l : List Given) (t : Given) (low : topped l ≡ false) where

@@ -1,6 +1,6 @@
 -- The ledger: what calls and their answers tell of tickets and slots. No definition here knows a lock word, a counter or what a slot keeps.
 use Rattle.std.specs.Prelude.{ℕ, zero, suc, ◌+◌, Bool, true, false, ◌&&◌, List, [], ◌∷◌, ◌++◌, eqb, length, set}
-use Rattle.common.specs.Choice.{if◌then◌else◌}
+use Rattle.common.specs.Choice.{when◌then◌else◌}
 use Rattle.agent_ticket.specs.declared.Mode.{Mode}
 use Rattle.agent_ticket.specs.declared.Mode.TheVariants.{Reader}
 use Rattle.agent_request.specs.Request.{mode_of}
@@ -44,7 +44,7 @@ blank = record { tickets = λ r. []; seats = λ i. free }
 
 -- A function with another value at one point.
 abbrev pub put : {A : Type 0} → (ℕ → A) → ℕ → A → ℕ → A
-put f k a x = if eqb x k then a else f x
+put f k a x = when eqb x k then a else f x
 
 abbrev pub seated : Ledger → ℕ → Seat → Ledger
 seated L i t = record { tickets = L.tickets; seats = put L.seats i t }

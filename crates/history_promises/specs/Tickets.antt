@@ -1,6 +1,6 @@
 -- The tickets of one record, oldest first, as the answers tell of them.
 use Rattle.std.specs.Prelude.{ℕ, zero, suc, ◌<◌, ◌≡◌, Bool, true, false, not, ◌&&◌, List, [], ◌∷◌, get_or, take}
-use Rattle.common.specs.Choice.{if◌then◌else◌}
+use Rattle.common.specs.Choice.{when◌then◌else◌}
 use Rattle.agent_ticket.specs.declared.Mode.{Mode}
 use Rattle.agent_ticket.specs.declared.Mode.TheVariants.{Reader, Writer}
 
@@ -33,7 +33,7 @@ same_kind Writer Writer = true
 -- How many elements of a list pass a test.
 unfoldable pub counted : {A : Type 0} → (A → Bool) → List A → ℕ
 counted f [] = zero
-counted f (a ∷ l) = if f a then suc (counted f l) else counted f l
+counted f (a ∷ l) = when f a then suc (counted f l) else counted f l
 
 -- How many tickets of a kind had been given.
 abbrev pub given_of : Mode → List Given → ℕ

@@ -1,11 +1,11 @@
 -- Why a report is of a history: a run comes to what its records come to (`RunPlaysItsRecords`), and one run after the other plays the calls of
 -- both.
 -- Assumes nothing.
-use Prim.Native.Nat.{ℕ, zero, suc, ◌+◌, ◌-◌, ◌*◌, ◌<◌, ◌≤◌}
+use Prim.Native.Nat.{ℕ, zero, suc, ◌+◌, ◌*◌, ◌<◌, ◌≤◌}
 use mathlib.Core.Path.{◌≡◌, refl, ap, sym, ◌∙◌}
 use mathlib.Core.List.{List, [], ◌∷◌, ◌++◌, append_assoc, map-append}
 use native.Mathlib.Omega.{arith}
-use lib.ListN.{length, take, drop, length-append}
+use lib.ListN.{length, take, drop}
 use lib.Seq.{take_at, drop-append-add}
 use Rattle.board_call.specs.declared.AnyCall.{AnyCall}
 use Rattle.agent_rules.specs.declared.Answer.TheVariants.{WrongPhase, Granted, Waiting, Full, Withdrawn, Released, ClearingDue, Cleared, NotYetClear, Passed, FreedUnasked}
@@ -27,7 +27,7 @@ use Rattle.run_rules.proofs.Plays.{run_plays_its_records, entry_long, entries_lo
 use Rattle.run_play.specs.Comes.{Comes}
 use Rattle.run_play.specs.declared.Ran.{Ran}
 use Rattle.history_promises.specs.Ledger.{Ledger, blank, waits_for}
-use Rattle.history_nodes.specs.History.{AnyMove, fresh_site, after_at, events_at, read_off_at, noted_any, ledger_at, site_at, answer_at}
+use Rattle.history_nodes.specs.History.{fresh_site, after_at, events_at, read_off_at, noted_any, ledger_at, site_at, answer_at}
 use Rattle.history_nodes.specs.History.AnyMove.{Do}
 use Rattle.history_nodes.specs.Promises.{TurnOf, AnyDemand}
 use Rattle.history_nodes.proofs.Demand.{any_demand_3, any_told_few, after_at_both}

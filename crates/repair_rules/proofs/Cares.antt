@@ -9,7 +9,7 @@ use borrow.Author.Tests.{lt-leb, lt-ltb}
 use lib.Dec.{leb}
 use lib.ListN.{length, set}
 use lib.Seq.{set-get_or}
-use Rattle.common.specs.Choice.{if◌then◌else◌}
+use Rattle.common.specs.Choice.{when◌then◌else◌}
 use Rattle.agent_request.specs.Request.{in_use}
 use Rattle.board_slots.specs.Slots.{SLOTS}
 use Rattle.board_call.specs.declared.AnyCall.TheVariants.{Care}
@@ -28,7 +28,7 @@ both_first false y e = e
 
 pub both_second : (x y : Bool) → (x && y) ≡ true → y ≡ true
 both_second true y e = e
-both_second false y e = sym (ap (λ (z : Bool). if z then y else true) e)
+both_second false y e = sym (ap (λ (z : Bool). when z then y else true) e)
 
 -- a test says no or yes
 pub no_or_yes : (x : Bool) → (x ≡ false) ⊎ (x ≡ true)

@@ -11,7 +11,7 @@ use borrow.Author.Tests.{eqb-true}
 use lib.Dec.{eqb}
 use lib.ListN.{get_or, set}
 use lib.Seq.{set-get_or}
-use Rattle.common.specs.Choice.{if◌then◌else◌}
+use Rattle.common.specs.Choice.{when◌then◌else◌}
 use Rattle.word_layout.specs.Word.{split_of}
 use Rattle.agent_ticket.specs.Turn.{turn_of}
 use Rattle.agent_ticket.specs.declared.Turn.{Turn}
@@ -52,7 +52,7 @@ rank_of q = rank_in (phase_of q.phase)
 -- a phase that is Waiting is kept as 2
 waiting_test :
     (a b c d e : Bool) →
-    (if a then Asking else if b then Waiting else if c then Held else if d then Owing else if e then Clearing else Free) ≡ Waiting →
+    (when a then Asking else when b then Waiting else when c then Held else when d then Owing else when e then Clearing else Free) ≡ Waiting →
     b ≡ true
 waiting_test true b c d e h = let z = ap phase_number h in absurd (omega arith)
 waiting_test false true c d e h = refl
@@ -87,14 +87,14 @@ turned_moves (turn.Ahead n) q w e r =
 let_go_moves :
     (q : Request) (w left : ℕ) (x : Bool) →
     rank_of q ≡ 2 →
-    Moves q w (if x then freed tells.Released else becomes (in_phase Clearing q) tells.ClearingDue) left
+    Moves q w (when x then freed tells.Released else becomes (in_phase Clearing q) tells.ClearingDue) left
 let_go_moves q w left true r = let z : 0 < rank_of q = omega arith in inr (refl, z)
 let_go_moves q w left false r = let z : 1 < rank_of q = omega arith in inr (refl, z)
 
 swapped_moves :
     (q : Request) (w : ℕ) (x : Bool) →
     rank_of q ≡ 1 →
-    Moves q w (if x then freed tells.Cleared else becomes q tells.NotYetClear) (if x then 0 else w)
+    Moves q w (when x then freed tells.Cleared else becomes q tells.NotYetClear) (when x then 0 else w)
 swapped_moves q w true r = let z : 0 < rank_of q = omega arith in inr (refl, z)
 swapped_moves q w false r = inl (refl, refl, refl)
 
@@ -137,8 +137,8 @@ visit_goes i q ws used = by (in_use q) (is_record q.«record» ws) (moves (phase
         (x y : Bool) →
         Moves q w k left →
         Goes i q ws
-        (if not x then visited q ws (Refused 4) else
-        if not y then visited q ws (Refused 2) else
+        (when not x then visited q ws (Refused 4) else
+        when not y then visited q ws (Refused 2) else
         visited k.request (set ws q.«record» left) (Told k.answer))
     by true true m =
         ⊎_elim

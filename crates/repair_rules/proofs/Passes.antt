@@ -8,7 +8,7 @@ use mathlib.Core.List.{List, append_assoc}
 use native.Mathlib.Omega.{arith}
 use native.Mathlib.Nat.{zero-add}
 use lib.ListN.{length, length-append}
-use Rattle.common.specs.Choice.{if◌then◌else◌}
+use Rattle.common.specs.Choice.{when◌then◌else◌}
 use Rattle.common.proofs.Choices.{either}
 use Rattle.board_slots.specs.Slots.{SLOTS}
 use Rattle.board_call.specs.declared.AnyCall.TheVariants.{Care}
@@ -76,10 +76,10 @@ passes_taken_up_again (suc m) n t e =
     by :
         (x : Bool) →
         (done_in m u ≡ false → TakenUp m n u) →
-        (if x then done_in m u else true) ≡ false →
-        ((if x then and_then cs (passes_of (m + n) u) else pass_of t) ≡
-        and_then (if x then and_then cs (passes_of m u) else pass_of t).cares (passes_of n (if x then and_then cs (passes_of m u) else pass_of t).site)) ×
-        ((if x then done_in (m + n) u else true) ≡ done_in n (if x then and_then cs (passes_of m u) else pass_of t).site)
+        (when x then done_in m u else true) ≡ false →
+        ((when x then and_then cs (passes_of (m + n) u) else pass_of t) ≡
+        and_then (when x then and_then cs (passes_of m u) else pass_of t).cares (passes_of n (when x then and_then cs (passes_of m u) else pass_of t).site)) ×
+        ((when x then done_in (m + n) u else true) ≡ done_in n (when x then and_then cs (passes_of m u) else pass_of t).site)
     by true again f =
         let p = again f in (
           ap (and_then cs) p.0 ∙
@@ -103,7 +103,7 @@ done_is_all (suc m) (suc n) t h e =
     by :
         (x : Bool) →
         (done_in m u ≡ true → passes_of n u ≡ passes_of m u) →
-        (if x then done_in m u else true) ≡ true →
-        (if x then and_then (pass_of t).cares (passes_of n u) else pass_of t) ≡ (if x then and_then (pass_of t).cares (passes_of m u) else pass_of t)
+        (when x then done_in m u else true) ≡ true →
+        (when x then and_then (pass_of t).cares (passes_of n u) else pass_of t) ≡ (when x then and_then (pass_of t).cares (passes_of m u) else pass_of t)
     by true again f = ap (and_then (pass_of t).cares) (again f)
     by false again f = refl

@@ -8,7 +8,7 @@ use native.Mathlib.Omega.{arith}
 use native.Mathlib.Nat.{zero-add, add-zero}
 use lib.Dec.{leb}
 use lib.ListN.{length, length-set, get_or-eq_default}
-use Rattle.common.specs.Choice.{if◌then◌else◌}
+use Rattle.common.specs.Choice.{when◌then◌else◌}
 use Rattle.common.proofs.Choices.{either}
 use Rattle.agent_request.specs.Request.{in_use, free_request}
 use Rattle.agent_request.specs.declared.Request.{Request}
@@ -63,8 +63,8 @@ in_two (suc m) k i t =
         let u = site_of (played_at (Care i) t) in
         pass_from (m + k) (suc i) u ≡ and_then (pass_from m (suc i) u).cares (pass_from k (suc i + m) (pass_from m (suc i) u).site) →
         pass_from (m + k) (suc i) t ≡ and_then (pass_from m (suc i) t).cares (pass_from k (suc i + m) (pass_from m (suc i) t).site) →
-        let w = if x then and_then (told_of i t ∷ []) (pass_from m (suc i) u) else pass_from m (suc i) t in
-        (if x then and_then (told_of i t ∷ []) (pass_from (m + k) (suc i) u) else pass_from (m + k) (suc i) t) ≡
+        let w = when x then and_then (told_of i t ∷ []) (pass_from m (suc i) u) else pass_from m (suc i) t in
+        (when x then and_then (told_of i t ∷ []) (pass_from (m + k) (suc i) u) else pass_from (m + k) (suc i) t) ≡
         and_then w.cares (pass_from k (suc i + m) w.site)
     by true e f = ap (and_then (told_of i t ∷ [])) e
     by false e f = f
@@ -81,7 +81,7 @@ short_pass m k t h =
 unfoldable pub short_passes : ℕ → ℕ → Site → Tended
 short_passes m zero t = untended t
 short_passes m (suc n) t =
-    if some_bring_on (pass_from m 0 t).cares
+    when some_bring_on (pass_from m 0 t).cares
     then and_then (pass_from m 0 t).cares (short_passes m n (pass_from m 0 t).site)
     else pass_from m 0 t
 
@@ -92,5 +92,5 @@ short_passes_law m k e (suc n) t h =
     let l = pass_length m 0 t in
     let w = pass_from m 0 t in
     let same : pass_of t ≡ w = ap (λ (j : ℕ). pass_from j 0 t) (sym e) ∙ short_pass m k t h in
-    ap (λ (x : Tended). if some_bring_on x.cares then and_then x.cares (passes_of n x.site) else x) same ∙
-    ap (λ (x : Tended). if some_bring_on w.cares then and_then w.cares x else w) (short_passes_law m k e n w.site (omega arith))
+    ap (λ (x : Tended). when some_bring_on x.cares then and_then x.cares (passes_of n x.site) else x) same ∙
+    ap (λ (x : Tended). when some_bring_on w.cares then and_then w.cares x else w) (short_passes_law m k e n w.site (omega arith))

@@ -1,14 +1,14 @@
 -- A repair in a lent log, so many passes at a time: the bytes of each care, and whether the repair is done.
 use Rattle.std.specs.Prelude.{ℕ, zero, suc, ◌+◌, ◌*◌, Bool, true, false, List, [], ◌∷◌, ◌++◌, leb, length, drop}
 use Rattle.std.proofs.lemmas.List.Edits.{sets}
-use Rattle.common.specs.Choice.{if◌then◌else◌}
+use Rattle.common.specs.Choice.{when◌then◌else◌}
 use Rattle.board_nodes.specs.Site.{Site}
 use Rattle.repair_rules.specs.Repair.{Cared, pass_of, some_bring_on}
 
 -- Rule 8.5: A repair is done where one among so many passes brings nothing on.
 unfoldable pub done_in : ℕ → Site → Bool
 done_in zero t = false
-done_in (suc n) t = if some_bring_on (pass_of t).cares then done_in n (pass_of t).site else true
+done_in (suc n) t = when some_bring_on (pass_of t).cares then done_in n (pass_of t).site else true
 
 -- Rule 8.6: A care in a log has 3 bytes, its slot, the old phase and the outcome; so a pass has at most 768.
 abbrev pub CARE : ℕ
@@ -29,10 +29,10 @@ abbrev pub fits_at : List ℕ → ℕ → Bool
 fits_at log at = leb (at + CARE) (length log)
 
 abbrev pub care_logged : List ℕ → ℕ → Cared → List ℕ
-care_logged log at c = if fits_at log at then sets log at (care_bytes c) else log
+care_logged log at c = when fits_at log at then sets log at (care_bytes c) else log
 
 abbrev pub place_after : List ℕ → ℕ → ℕ
-place_after log at = if fits_at log at then at + CARE else at
+place_after log at = when fits_at log at then at + CARE else at
 
 unfoldable pub logged_at : List ℕ → ℕ → List Cared → List ℕ
 logged_at log at [] = log

@@ -1,6 +1,6 @@
 -- The repair of a board: care calls over all slots in use of fenced nodes, lowest first, in passes, until a pass brings nothing on.
 use Rattle.std.specs.Prelude.{ℕ, zero, suc, Bool, false, not, ◌&&◌, ◌||◌, List, [], ◌∷◌, ◌++◌, eqb}
-use Rattle.common.specs.Choice.{if◌then◌else◌}
+use Rattle.common.specs.Choice.{when◌then◌else◌}
 use Rattle.agent_request.specs.Request.{in_use}
 use Rattle.board_slots.specs.Slots.{SLOTS}
 use Rattle.board_call.specs.declared.AnyCall.TheVariants.{Care}
@@ -36,7 +36,7 @@ told_of i t = record { slot = i; phase = (slot_at (inner t) i).phase; outcome = 
 unfoldable pub pass_from : ℕ → ℕ → Site → Tended
 pass_from zero i t = untended t
 pass_from (suc k) i t =
-    if is_lost t i
+    when is_lost t i
     then and_then (told_of i t ∷ []) (pass_from k (suc i) (site_of (played_at (Care i) t)))
     else pass_from k (suc i) t
 
@@ -55,7 +55,7 @@ some_bring_on (c ∷ cs) = brings_on c || some_bring_on cs
 -- Rule 8.5: Passes until one brings nothing on, that one too; at most so many.
 unfoldable pub passes_of : ℕ → Site → Tended
 passes_of zero t = untended t
-passes_of (suc n) t = if some_bring_on (pass_of t).cares then and_then (pass_of t).cares (passes_of n (pass_of t).site) else pass_of t
+passes_of (suc n) t = when some_bring_on (pass_of t).cares then and_then (pass_of t).cares (passes_of n (pass_of t).site) else pass_of t
 
 -- Rule 8.5: At most three cares bring a slot on, from Waiting to Held, from Held to Clearing, from Clearing to free. So among 3 times 256 passes and one
 -- more there is one that brings nothing on: `RepairEnds` (Promises).

@@ -1,7 +1,7 @@
 -- A report entry, 12 bytes.
 use Rattle.std.specs.Prelude.{ℕ, ◌+◌, ◌*◌, ◌/◌, ◌%◌, ◌^◌, List, [], ◌∷◌, leb, length}
 use Rattle.std.proofs.lemmas.List.Edits.{sets}
-use Rattle.common.specs.Choice.{if◌then◌else◌}
+use Rattle.common.specs.Choice.{when◌then◌else◌}
 use Rattle.board_rules.specs.declared.Said.{Said}
 
 -- Rule 7.5: How long an entry is.
@@ -21,4 +21,4 @@ entry_of d =
 
 -- Rule 7.5: A report with an entry at a place, where it fits; else the report as it is.
 unfoldable pub put_of : List ℕ → ℕ → Said → List ℕ
-put_of report at d = if leb (at + ENTRY) (length report) then sets report at (entry_of d) else report
+put_of report at d = when leb (at + ENTRY) (length report) then sets report at (entry_of d) else report

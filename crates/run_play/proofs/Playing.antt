@@ -11,7 +11,7 @@ use borrow.Author.Tests.{eq-eqb, ne_eqb}
 use lib.Dec.{eqb, ltb}
 use lib.ListN.{length, take, drop, set, length-append, length-set}
 use lib.Seq.{set-get_or, sets-eq, length-sets, drop-append-add, drop-drop, take_at, length-take-le}
-use Rattle.common.specs.Choice.{if◌then◌else◌}
+use Rattle.common.specs.Choice.{when◌then◌else◌}
 use Rattle.agent_request.specs.Request.{in_use, free_request}
 use Rattle.agent_request.specs.declared.Request.{Request}
 use Rattle.agent_rules.specs.declared.Answer.TheVariants.{Waiting}
@@ -143,7 +143,7 @@ verb_le : (c : AnyCall) (a : Answer) → verbs_of_any c a ≤ 1
 unfolding verbs_of_any verbs_of
 verb_le c a = at_most (eqb (said_of_any c a).outcome 12) (sends_verb (reported_as c) && eqb (said_of_any c a).number 0)
   where
-    at_most : (x y : Bool) → (if x then 0 else if y then 1 else 0) ≤ 1
+    at_most : (x y : Bool) → (when x then 0 else when y then 1 else 0) ≤ 1
     at_most true y = omega arith
     at_most false true = omega arith
     at_most false false = omega arith
@@ -156,7 +156,7 @@ waits_verb : (k n : ℕ) → verbs_of_any (Base (Step k)) (Told (Waiting n)) ≡
 unfolding verbs_of_any verbs_of
 waits_verb k n = refl
 
-unmarked : (b : Bool) (m x y : List ℕ) → m ≡ (if b then (if b then m else x) else (if b then y else m))
+unmarked : (b : Bool) (m x y : List ℕ) → m ≡ (when b then (when b then m else x) else (when b then y else m))
 unmarked true m x y = refl
 unmarked false m x y = refl
 
@@ -192,7 +192,7 @@ open_verbs : (c : AnyCall) (r m : ℕ) → reported_as c ≡ Open r m → (n : �
 unfolding verbs_of_any verbs_of
 open_verbs c r m e n a = rw e (sym (ap (λ (k : ℕ). n + k) (by (eqb (said_of (Open r m) a).outcome 12)) ∙ add-zero n))
   where
-    by : (x : Bool) → ◌≡◌ {A = ℕ} (if x then 0 else 0) 0
+    by : (x : Bool) → ◌≡◌ {A = ℕ} (when x then 0 else 0) 0
     by true = refl
     by false = refl
 

@@ -1,7 +1,7 @@
 -- A mirror of `Run`: the two tests before a record as the code makes them, on what stands at its place. Nothing here needs belief: the
 -- three statements at the end say that a run ends where they say, with their number, and goes on where they do not.
 use Rattle.std.specs.Prelude.{ℕ, ◌-◌, ◌≡◌, Bool, true, false, List, eqb, ltb}
-use Rattle.common.specs.Choice.{if◌then◌else◌}
+use Rattle.common.specs.Choice.{when◌then◌else◌}
 use Rattle.board_call.specs.declared.AnyCall.{AnyCall}
 use Rattle.board_nodes.specs.Site.{Site, site_of, played_at}
 use Rattle.schedule_bytes.specs.Schedule.{next_of}
@@ -18,7 +18,7 @@ is_end Cut = false
 
 -- 11 with the allowance spent, 12 with the report short, but not at the end of the schedule; 0 where neither stops the run.
 abbrev pub halted_of : Bool → Bool → Bool → ℕ
-halted_of at_end spent short = if at_end then 0 else if spent then 11 else if short then 12 else 0
+halted_of at_end spent short = when at_end then 0 else when spent then 11 else when short then 12 else 0
 
 -- What a run ends with where no record stands: 0 at the end, 8 for an unknown kind, 7 for a cut body.
 abbrev pub leaves_of : Next → ℕ

@@ -8,7 +8,7 @@ use lib.Dec.{eqb, ltb, leb}
 use lib.ListN.{length}
 use mathlib.Core.List.{List}
 use Rattle.board_call.specs.declared.AnyCall.{AnyCall}
-use Rattle.common.specs.Choice.{if◌then◌else◌}
+use Rattle.common.specs.Choice.{when◌then◌else◌}
 use Rattle.schedule_kinds.specs.Kinds.{body_of}
 use Rattle.schedule_bytes.specs.Schedule.{byte_at, call_at, next_of}
 use Rattle.schedule_bytes.specs.Promises.{KindFixesLength}
@@ -17,7 +17,7 @@ use Rattle.schedule_bytes.specs.declared.Next.TheVariants.{Record, End, Unknown,
 -- the place after a record is past its kind and its body
 after_of :
     (a b c : Bool) (x : AnyCall) (n : ℕ) (y : AnyCall) (m : ℕ) →
-    (if a then End else if b then Unknown else if c then Cut else Record x n) ≡ Record y m →
+    (when a then End else when b then Unknown else when c then Cut else Record x n) ≡ Record y m →
     m ≡ n
 after_of true b c x n y m e = let z : ◌≡◌ {A = ℕ} 0 1 = cc in absurd (omega arith)
 after_of false true c x n y m e = let z : ◌≡◌ {A = ℕ} 0 1 = cc in absurd (omega arith)

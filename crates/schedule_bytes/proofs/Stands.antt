@@ -8,7 +8,7 @@ use native.Mathlib.Omega.{arith}
 use borrow.Author.Tests.{leb-true, leb-false, ltb-true, le-leb, lt-leb, lt-ltb, eqb-true, eqb-false, ne_eqb}
 use lib.Dec.{eqb, ltb, leb}
 use lib.ListN.{length}
-use Rattle.common.specs.Choice.{if◌then◌else◌}
+use Rattle.common.specs.Choice.{when◌then◌else◌}
 use Rattle.board_call.specs.declared.AnyCall.{AnyCall}
 use Rattle.schedule_kinds.specs.Kinds.{body_of}
 use Rattle.schedule_kinds.proofs.EachKind.{none_or_known, no_body, some_body}
@@ -19,7 +19,7 @@ use Rattle.schedule_bytes.specs.declared.Next.TheVariants.{Record, End, Unknown,
 
 -- the answer by the three tests
 abbrev by : Bool → Bool → Bool → Next → Next
-by x y z r = if x then End else if y then Unknown else if z then Cut else r
+by x y z r = when x then End else when y then Unknown else when z then Cut else r
 
 differ : {A : Type 0} → ◌≡◌ {A = ℕ} 0 1 → A
 differ e = absurd (omega arith)

@@ -1,6 +1,6 @@
 -- Schedules in bytes: one byte of kind, then a body whose length the kind fixes.
 use Rattle.std.specs.Prelude.{ℕ, zero, suc, ◌+◌, ◌*◌, ◌-◌, List, [], ◌∷◌, eqb, ltb, leb, length, get_or}
-use Rattle.common.specs.Choice.{if◌then◌else◌}
+use Rattle.common.specs.Choice.{when◌then◌else◌}
 use Rattle.board_call.specs.declared.AnyCall.{AnyCall}
 use Rattle.schedule_kinds.specs.Kinds.{widths_of, body_of, parts_from, call_of}
 use Rattle.schedule_bytes.specs.declared.Next.{Next}
@@ -28,9 +28,9 @@ call_at k s i = call_of (parts_from k (numbers_at (widths_of k) s i))
 -- with the place after it.
 unfoldable pub next_of : List ℕ → ℕ → Next
 next_of s at =
-    if leb (length s) at then End else
-    if eqb (body_of (byte_at s at)) 0 then Unknown else
-    if ltb (length s - (at + 1)) (body_of (byte_at s at)) then Cut else
+    when leb (length s) at then End else
+    when eqb (body_of (byte_at s at)) 0 then Unknown else
+    when ltb (length s - (at + 1)) (body_of (byte_at s at)) then Cut else
     Record (call_at (byte_at s at) s (at + 1)) (at + 1 + body_of (byte_at s at))
 
 -- The first n calls from a place on: they stop where no whole record stands.

@@ -1,6 +1,6 @@
 -- The kinds of record, described once. A new kind is a line in `widths_of`, one in `parts_of` and one in `call_of`.
 use Rattle.std.specs.Prelude.{ℕ, ◌+◌, List, [], ◌∷◌, eqb, get_or}
-use Rattle.common.specs.Choice.{if◌then◌else◌}
+use Rattle.common.specs.Choice.{when◌then◌else◌}
 use Rattle.board_call.specs.declared.AnyCall.{AnyCall}
 use Rattle.board_call.specs.declared.AnyCall.TheVariants.{Base, OpenAs, Fence, Care}
 use Rattle.board_call.specs.declared.Call.TheVariants.{Open, Step, Release, Show}
@@ -36,13 +36,13 @@ widths first second third = first ∷ second ∷ third ∷ []
 -- Rule 6.1: How many bytes the fields of a kind take, in their order. A kind that is unknown has no field.
 unfoldable pub widths_of : ℕ → List ℕ
 widths_of k =
-    if eqb k OPEN then widths 2 1 0 else
-    if eqb k STEP then widths 1 0 0 else
-    if eqb k RELEASE then widths 1 0 0 else
-    if eqb k SHOW then widths 2 0 0 else
-    if eqb k OPEN_AS then widths 2 1 1 else
-    if eqb k FENCE then widths 1 0 0 else
-    if eqb k CARE then widths 1 0 0 else
+    when eqb k OPEN then widths 2 1 0 else
+    when eqb k STEP then widths 1 0 0 else
+    when eqb k RELEASE then widths 1 0 0 else
+    when eqb k SHOW then widths 2 0 0 else
+    when eqb k OPEN_AS then widths 2 1 1 else
+    when eqb k FENCE then widths 1 0 0 else
+    when eqb k CARE then widths 1 0 0 else
     widths 0 0 0
 
 -- All of some widths together.
@@ -79,9 +79,9 @@ parts_of (Care s) = parts CARE s 0 0
 -- and the call of a known kind with its numbers.
 unfoldable pub call_of : Parts → AnyCall
 call_of p =
-    if eqb p.kind OPEN then Base (Open p.first p.second) else
-    if eqb p.kind STEP then Base (Step p.first) else
-    if eqb p.kind RELEASE then Base (Release p.first) else
-    if eqb p.kind SHOW then Base (Show p.first) else
-    if eqb p.kind OPEN_AS then OpenAs p.first p.second p.third else
-    if eqb p.kind FENCE then Fence p.first else Care p.first
+    when eqb p.kind OPEN then Base (Open p.first p.second) else
+    when eqb p.kind STEP then Base (Step p.first) else
+    when eqb p.kind RELEASE then Base (Release p.first) else
+    when eqb p.kind SHOW then Base (Show p.first) else
+    when eqb p.kind OPEN_AS then OpenAs p.first p.second p.third else
+    when eqb p.kind FENCE then Fence p.first else Care p.first

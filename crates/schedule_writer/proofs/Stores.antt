@@ -12,7 +12,7 @@ use borrow.Author.Tests.{lt-ltb, le-ltb, eq-eqb, ne_eqb}
 use lib.Dec.{leb}
 use lib.ListN.{length, set, length-set}
 use lib.Seq.{sets, length-sets}
-use Rattle.common.specs.Choice.{if◌then◌else◌}
+use Rattle.common.specs.Choice.{when◌then◌else◌}
 use Rattle.board_call.specs.declared.AnyCall.{AnyCall}
 use Rattle.schedule_kinds.specs.Kinds.{widths_of, body_of, total, numbers_of, parts_of}
 use Rattle.schedule_kinds.specs.declared.Parts.{Parts}
@@ -84,7 +84,7 @@ module _ (p : Parts) (a b c : ℕ) (w : (a ∷ b ∷ c ∷ []) ≡ widths_of p.k
     unfolding too_large
     by_the_third e = rw (← w, fits, e) (last (leb (256 ^ c) p.third))
       where
-        last : (x : Bool) → x ≡ (if x then true else false)
+        last : (x : Bool) → x ≡ (when x then true else false)
         last true = refl
         last false = refl
 

@@ -12,7 +12,7 @@ use borrow.Author.Tests.{leb-false, lt-leb}
 use lib.Dec.{leb}
 use lib.ListN.{length, get_or, take, drop, length-append, length-drop}
 use lib.Seq.{get_or-drop, drop-drop, drop_at, take-add}
-use Rattle.common.specs.Choice.{if◌then◌else◌}
+use Rattle.common.specs.Choice.{when◌then◌else◌}
 use Rattle.schedule_kinds.specs.Kinds.{total}
 use Rattle.schedule_bytes.specs.Schedule.{byte_at, number_at, numbers_at}
 use Rattle.schedule_writing.specs.Writing.{bytes_of, fields_of, too_large}
@@ -67,10 +67,10 @@ front_bytes (suc w) n r h =
     rw (front_bytes w (n / 256) r above) (omega arith)
 
 -- what the test says of the first field and of the others
-pub first_fits : (w n : ℕ) (x : Bool) → (if leb (256 ^ w) n then true else x) ≡ false → (n < 256 ^ w) × (x ≡ false)
+pub first_fits : (w n : ℕ) (x : Bool) → (when leb (256 ^ w) n then true else x) ≡ false → (n < 256 ^ w) × (x ≡ false)
 first_fits w n x = by (leb (256 ^ w) n) refl
   where
-    by : (b : Bool) → leb (256 ^ w) n ≡ b → (if b then true else x) ≡ false → (n < 256 ^ w) × (x ≡ false)
+    by : (b : Bool) → leb (256 ^ w) n ≡ b → (when b then true else x) ≡ false → (n < 256 ^ w) × (x ≡ false)
     by true e h = absurd (let one : ◌≡◌ {A = ℕ} 0 1 = cc in omega arith)
     by false e h = (leb-false (256 ^ w) n e, h)
 

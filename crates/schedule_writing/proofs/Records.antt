@@ -12,7 +12,7 @@ use borrow.Author.Tests.{leb-false, ltb-true, ltb-false, lt-leb, le-ltb, ne_eqb,
 use lib.Dec.{eqb, ltb, leb}
 use lib.ListN.{length, get_or, take, drop, length-append, length-drop, take-append-drop}
 use lib.Seq.{sets, sets-eq, get_or-drop, drop-drop, drop_at, take_at, length-take-le, drop-cons}
-use Rattle.common.specs.Choice.{if◌then◌else◌}
+use Rattle.common.specs.Choice.{when◌then◌else◌}
 use Rattle.board_call.specs.declared.AnyCall.{AnyCall}
 use Rattle.schedule_kinds.specs.Kinds.{widths_of, body_of, numbers_of, parts_from, parts_of, call_of}
 use Rattle.schedule_kinds.specs.declared.Parts.{Parts}
@@ -82,7 +82,7 @@ pub record Stood (s : List ℕ) (at : ℕ) (c : AnyCall) (n : ℕ) : Type 0 wher
 -- of what the three tests come to, a record is the last
 is_record_law :
     (x y z : Bool) (c : AnyCall) (n : ℕ) (d : AnyCall) (m : ℕ) →
-    (if x then End else if y then Unknown else if z then Cut else Record c n) ≡ Record d m →
+    (when x then End else when y then Unknown else when z then Cut else Record c n) ≡ Record d m →
     (x ≡ false) × (y ≡ false) × (z ≡ false) × (d ≡ c) × (m ≡ n)
 is_record_law true y z c n d m e = absurd (let one : ◌≡◌ {A = ℕ} 0 1 = cc in omega arith)
 is_record_law false true z c n d m e = absurd (let one : ◌≡◌ {A = ℕ} 0 1 = cc in omega arith)

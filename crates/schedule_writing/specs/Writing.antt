@@ -1,7 +1,7 @@
 -- A call as the bytes of its record, and the record written at a place of a lent buffer.
 use Rattle.std.specs.Prelude.{ℕ, zero, suc, ◌+◌, ◌/◌, ◌%◌, ◌^◌, Bool, true, false, List, [], ◌∷◌, ◌++◌, eqb, ltb, leb, length}
 use Rattle.std.proofs.lemmas.List.Edits.{sets}
-use Rattle.common.specs.Choice.{if◌then◌else◌}
+use Rattle.common.specs.Choice.{when◌then◌else◌}
 use Rattle.board_call.specs.declared.AnyCall.{AnyCall}
 use Rattle.schedule_kinds.specs.Kinds.{widths_of, body_of, numbers_of, parts_of}
 use Rattle.schedule_kinds.specs.declared.Parts.{Parts}
@@ -31,7 +31,7 @@ length_of p = 1 + body_of p.kind
 unfoldable pub too_large : List ℕ → List ℕ → Bool
 too_large [] ns = false
 too_large (w ∷ ws) [] = false
-too_large (w ∷ ws) (n ∷ ns) = if leb (256 ^ w) n then true else too_large ws ns
+too_large (w ∷ ws) (n ∷ ns) = when leb (256 ^ w) n then true else too_large ws ns
 
 -- What writing comes to: the number of rule 5.1, the next free place, and the buffer's bytes.
 pub record Writing : Type 0 where
@@ -47,16 +47,16 @@ refused n s at = record { number = n; place = at; bytes = s }
 -- record, or a place past the end, 12; else the record stands there, and the next free place is the one behind it.
 unfoldable pub writing_of : List ℕ → ℕ → Parts → Writing
 writing_of s at p =
-    if eqb (body_of p.kind) 0 then refused 8 s at else
-    if too_large (widths_of p.kind) (numbers_of p) then refused 18 s at else
-    if ltb (length s) (at + length_of p) then refused 12 s at else
+    when eqb (body_of p.kind) 0 then refused 8 s at else
+    when too_large (widths_of p.kind) (numbers_of p) then refused 18 s at else
+    when ltb (length s) (at + length_of p) then refused 12 s at else
     record { number = 0; place = at + length_of p; bytes = sets s at (record_of p) }
 
 -- Rule 6.4: What became of it, by its number. (A call's kind is always known.)
 abbrev pub became_of : Writing → Written
 became_of w =
-    if eqb w.number 0 then Next w.place else
-    if eqb w.number 18 then TooLarge else NoRoom
+    when eqb w.number 0 then Next w.place else
+    when eqb w.number 18 then TooLarge else NoRoom
 
 -- Rule 6.4: A call, written: what became of it,
 abbrev pub written_of : List ℕ → ℕ → AnyCall → Written

@@ -1,7 +1,7 @@
 -- The lock word: four counters in one 64-bit number, and the three verbs.
 -- Nothing here knows of requests, tickets or boards.
 use Rattle.std.specs.Prelude.{ℕ, ◌+◌, ◌*◌, ◌-◌, ◌^◌, ◌/◌, ◌%◌, eqb}
-use Rattle.common.specs.Choice.{if◌then◌else◌}
+use Rattle.common.specs.Choice.{when◌then◌else◌}
 use Rattle.word_layout.specs.declared.Counters.{Counters}
 use Rattle.word_layout.specs.declared.Counter.{Counter}
 use Rattle.word_layout.specs.declared.Counter.TheVariants.{NX, NS, MX, MS}
@@ -45,4 +45,4 @@ add_of w k = (w + k) % 2 ^ 64
 
 -- Rule 1.5: swap old, new: the word becomes new if it equals old, else it stays.
 abbrev pub swap_of : ℕ → ℕ → ℕ → ℕ
-swap_of w old new = if eqb w old then new else w
+swap_of w old new = when eqb w old then new else w
