@@ -1,8 +1,12 @@
 # Reads the sources of all crates, crates/CRATE/src/.../FILE.rt, and prints a line for each public function:
 #     CRATE <tab> MODULE::TYPE::NAME <tab> FILE:LINE
 # It is a part of .ci/listed, and reads bytes: it needs LC_ALL=C. It is a small parser of items and not a search for lines, so blanks, line
-# breaks, comments and attributes may stand anywhere. A function is public if it is `pub`, in whatever module, or is exported to C.
-# It complains of a public function that has any clause but `ensures`.
+# breaks, comments and attributes may stand anywhere. A function is public if it is `pub`, in whatever module, or is exported to C, or
+# stands in a `pub trait`. It complains of a public function that has any clause but `ensures`.
+#
+# An `impl` of a trait has no name, and its functions are not `pub`. Where the trait is one of the repository, what they promise is what the
+# trait's functions do, which are listed. Where it is one of the library, the promise stands in the `impl` itself, in the ghost members that
+# are named below, and its functions are listed under the name that the toolchain gives the `impl`: TYPETRAITARGUMENTS.
 #
 # What it does not understand it must not pass. The rule: the word fn either stands in a comment that has its line to itself, or begins a
 # function which is read here. All else, and each form that no crate has yet, ends with a complaint; extend this parser then.
@@ -16,6 +20,16 @@ function complain(place, text) {
 function lost(text) {
     if (!dead) complain(file ":" line, text ": this script cannot tell which functions stand there")
     dead = 1
+}
+
+# The library's traits of which an `impl` is understood, each with the ghost members that such an `impl` may give: none of them asks anything
+# of callers. Of those in `silent` the functions are not listed, since what is printed or dropped is no part of a contract.
+BEGIN {
+    members["From"] = " from_gives "
+    members["TryFrom"] = " try_from_gives "
+    members["Default"] = " is_default "
+    members["Display"] = members["Error"] = members["Drop"] = " "
+    silent["Display"] = silent["Error"] = silent["Drop"] = 1
 }
 
 function join(module, last) { return module == "" ? last : module "::" last }
@@ -37,7 +51,7 @@ function start_file(    part, count, i, path) {
     }
     dead = depth = 0
     modules[0] = path
-    types[0] = ""
+    types[0] = kinds[0] = ""
     next_item()
 }
 
@@ -49,15 +63,16 @@ function end_file() {
 
 function next_item() {
     state = "item"
-    visible = named = ""
-    exported = round = curly = 0
+    visible = named = given = ""
+    exported = round = curly = behind = 0
 }
 
-# the braces of a `mod` or an `impl` hold items
-function open_level(module, type) {
+# the braces of a `mod`, an `impl` or a `trait` hold items; kind: of which sort they are, where their functions are not as elsewhere
+function open_level(module, type, kind) {
     depth++
     modules[depth] = module
     types[depth] = type
+    kinds[depth] = kind
     next_item()
 }
 
@@ -70,7 +85,7 @@ function nest(t) {
 
 # takes one token: a word, one other character, 0 for a number, " for a literal, ' for a lifetime
 function parse(t) {
-    if (t == "fn" && state !~ /^(item|visible|const|extern)$/) { lost("the word fn where no function can begin"); return }
+    if (t == "fn" && state !~ /^(item|visible|const|extern|final)$/) { lost("the word fn where no function can begin"); return }
     if (state == "visible" && t == "(") { visible = "in part"; state = "group" }
     if (state == "visible") state = "item"
     if (state == "item") in_item(t)
@@ -78,9 +93,11 @@ function parse(t) {
     else if (state == "attribute") in_attribute(t)
     else if (state == "const") { if (t == "fn") state = "name"; else { state = "value"; in_value(t) } }
     else if (state == "extern") { if (t == "fn") state = "name"; else if (t != "\"") lost("a block of C functions") }
-    else if (state == "ghost") { if (t == "use") { state = "antt"; clause = 0 } else lost("a ghost item") }
+    else if (state == "final") { if (t == "fn") state = "name"; else lost("a `final`") }
+    else if (state == "ghost") in_ghost(t)
     else if (state == "mod") in_mod(t)
     else if (state == "impl") in_impl(t)
+    else if (state == "trait") in_trait(t)
     else if (state == "type") in_type(t)
     else if (state == "fields") in_fields(t)
     else if (state == "use") in_use(t)
@@ -97,7 +114,8 @@ function in_item(t) {
     else if (t == "extern") { exported = 1; state = "extern" }
     else if (t == "const") state = "const"
     else if (t == "fn") state = "name"
-    else if (t == "mod" || t == "impl" || t == "ghost") state = t
+    else if (t == "mod" || t == "impl" || t == "trait" || t == "ghost") state = t
+    else if (t == "final" && kinds[depth] ~ /^(public )?trait$/) state = "final"
     else if (t == "struct" || t == "enum") state = "type"
     else if (t == "type") state = "value"
     else if (t == "use" && visible == "pub") lost("`pub use`, which may pass a function on")
@@ -130,17 +148,57 @@ function in_value(t) {
 function in_mod(t) {
     if (named == "" && is_word(t)) named = t
     else if (named != "" && t == ";") { declared[crate, join(modules[depth], named)] = 1; next_item() }
-    else if (named != "" && t == "{") open_level(join(modules[depth], named), "")
+    else if (named != "" && t == "{") open_level(join(modules[depth], named), "", "")
     else lost("a `mod`")
 }
 
+# `impl TYPE` or `impl TRAIT<ARGUMENT> for TYPE`, each one word, but a trait may stand behind its module. `behind` says what has been read:
+# 1 the first name's own <..>, 2 the `for`
 function in_impl(t) {
-    if (t == "<") round++
+    if (t == "<" && behind == 2) lost("an `impl` for a type with arguments")
+    else if (t == "<") { round++; if (named != "") behind = 1 }
     else if (t == ">") round--
-    else if (round > 0) return
-    else if (named == "" && is_word(t)) named = t
-    else if (named != "" && t == "{") open_level(modules[depth], named)
+    else if (round > 0) { if (behind == 1) given = given (is_word(t) ? capital(t) : "?") }
+    else if (t == "for" && named ~ /[^:]$/ && behind != 2 && given !~ /\?/) { impl_of = named; named = ""; behind = 2 }
+    else if (t == ":" && named != "" && behind == 0) named = named ":"
+    else if ((named == "" || named ~ /::$/) && is_word(t)) named = t
+    else if (t == "{" && named ~ /[^:]$/ && behind == 2) open_impl()
+    else if (t == "{" && named ~ /[^:]$/) open_level(modules[depth], named, "")
     else lost("the type of an `impl`")
+}
+
+function capital(text) { return toupper(substr(text, 1, 1)) substr(text, 2) }
+
+function open_impl(    name) {
+    name = capital(named) impl_of given
+    impls++
+    impl_trait[impls] = impl_of
+    impl_place[impls] = file ":" line
+    is_type[crate, join(modules[depth], name)] = 1
+    open_level(modules[depth], name, (impl_of in members) && !(impl_of in silent) ? "listed impl of a trait" : "impl of a trait")
+    trait_of[depth] = impl_of
+}
+
+# what a trait stands above may ask something of a type, but of no value
+function in_trait(t) {
+    if (named == "" && is_word(t)) {
+        named = t
+        if (t in members || t in is_trait || t ~ /^(Iterator|IntoIterator|Model|Owns|Clone|Copy|Hash|(Partial)?(Eq|Ord)|Fn(Mut|Once)?)$/)
+            complain(file ":" line, "a second trait " t)
+        is_trait[t] = 1
+        is_type[crate, join(modules[depth], t)] = 1
+    }
+    else if (named != "" && t == "{") open_level(modules[depth], named, visible == "pub" ? "public trait" : "trait")
+    else if (named == "" || !(is_word(t) || t ~ /^[:+,<>=']$/)) lost("a trait")
+}
+
+# a ghost member of a trait, or of an `impl` of one; elsewhere only a `use`
+function in_ghost(t) {
+    if (t != "use" && kinds[depth] !~ /trait$/) { lost("a ghost item"); return }
+    if (t != "use" && kinds[depth] ~ /impl/ && (trait_of[depth] in members) && index(members[trait_of[depth]], " " t " ") == 0)
+        complain(file ":" line, "a ghost member " t " in an `impl` of " trait_of[depth])
+    state = "antt"
+    clause = 0
 }
 
 function in_type(t) {
@@ -171,7 +229,7 @@ function in_use(t,    path) {
 
 function in_name(t) {
     if (!is_word(t)) { lost("a function without a name"); return }
-    public = (visible == "pub" || exported)
+    public = (visible == "pub" || exported || kinds[depth] == "public trait" || kinds[depth] == "listed impl of a trait")
     state = "head"
     if (!public) return
     functions++
@@ -186,9 +244,11 @@ function in_name(t) {
 function in_head(t) {
     if (t == "{" && round == 0) { state = "body"; curly = 1; return }
     nest(t)
+    if (t == ";" && round == 0 && kinds[depth] ~ /^(public )?trait$/) { next_item(); return }
     if (t == "{" || (t == ";" && round == 0)) lost("a function without a body")
     if (round > 0) return
-    if ((t == "requires" || t == "ghost") && public) complain(file ":" line, "the public function " name_of[functions] " has a " t)
+    if ((t == "requires" || t == "ghost") && (public || kinds[depth] ~ /impl/))
+        complain(file ":" line, (public ? "the public function " name_of[functions] : "a function of an `impl` of a trait") " has a " t)
     if (t == "requires" || t == "ghost" || t == "ensures") { named = ""; state = "clause" }
 }
 
@@ -273,6 +333,9 @@ END {
     end_file()
     for (file in module_of)
         if (!(module_of[file] in declared)) complain(file, "no `mod` of its crate leads to it by its name: its functions have no path")
+    for (i = 1; i <= impls; i++)
+        if (!(impl_trait[i] in members) && !(impl_trait[i] in is_trait))
+            complain(impl_place[i], "an `impl` of " impl_trait[i] ", which is none of the traits that this script knows")
     for (i = 1; i <= functions; i++) {
         path = path_of(i)
         if (path == "") complain(place_of[i], "the `impl` is of a type that is neither of this module nor brought by `use crate::..`")

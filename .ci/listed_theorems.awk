@@ -12,6 +12,9 @@
 #     use Rattle.CRATE.proofs.PATH.Reads as LABEL_reads
 #     LABEL_determined : Determined N LABEL_kinds.ps LABEL_kinds.r LABEL_reads.Post
 #     LABEL_determined .. = ..
+#  the same where the function is generic: for all that it is generic in, which the contract's reading takes whole, and in that order:
+#     LABEL_determined : (A B C D : _) → Determined N (LABEL_kinds.ps A B) (LABEL_kinds.r A B) (LABEL_reads.Post A B C D)
+#     LABEL_determined .. = ..
 #  a function of whose contract it makes none, since a struct is held or lent; the second line here goes on with the third:
 #     use Rattle.CRATE.specs.contracts.PATH as LABEL
 #     abbrev LABEL_says : Says LABEL.ended (λ w κs a r s.
@@ -177,16 +180,37 @@ function read_says(word,    label) {
     awaited = label "_says = record { claim = _; exactly = λ w κs a r s. refl }"
 }
 
-function read_theorem(word,    label, said, number, path) {
+# "(A B C D : _) → " makes " A B C D", of names that differ; anything else makes ""
+function generic_in(text,    word, count, i, all, seen) {
+    if (!match(text, /^\([a-z]( [a-z])* : _\) → /)) return ""
+    count = split(substr(text, 2, index(text, " : _") - 2), word, " ")
+    for (i = 1; i <= count; i++) {
+        if (word[i] in seen) return ""
+        seen[word[i]] = 1
+        all = all " " word[i]
+    }
+    return all
+}
+
+# the statement for a function that is generic in the names `all`, of which its parameters' kinds take the first ones
+function is_generic(said, number, label, all,    first) {
+    for (first = all; first != ""; first = substr(first, 1, length(first) - 2))
+        if (said == number "(" label "_kinds.ps" first ") (" label "_kinds.r" first ") (" label "_reads.Post" all ")") return 1
+    return 0
+}
+
+function read_theorem(word,    label, said, number, path, all) {
     label = without(word, "_determined")
     said = plain(substr($0, length(word " : ") + 1))
     path = ""
+    all = generic_in(said)
+    if (all != "") said = substr(said, index(said, " → ") + length(" → "))
     if (match(said, /^Determined [0-9]+ /)) {
         number = substr(said, 1, RLENGTH)
-        if (said == number label "_kinds.ps " label "_kinds.r " label "_reads.Post" &&
+        if ((all == "" ? said == number label "_kinds.ps " label "_kinds.r " label "_reads.Post" : is_generic(said, number, label, all)) &&
             (crate, "kinds", label) in brought && brought[crate, "kinds", label] == brought[crate, "reads", label])
             path = brought[crate, "kinds", label]
-    } else if (said == "DeterminedOf " label ".ended " label "_says.claim" && (crate, label) in says)
+    } else if (all == "" && said == "DeterminedOf " label ".ended " label "_says.claim" && (crate, label) in says)
         path = brought[crate, "whole", label]
     if (path == "") here("the theorem " word " is not in an accepted form over the contract of one function of this crate")
     else if (!((crate, path) in public)) here("the theorem " word " is of " path ", which is no public function")

@@ -6,8 +6,7 @@ use native.Mathlib.Omega.{arith}
 use lib.Dec.{ltb}
 use Rattle.common.proofs.Choices.{either}
 use Rattle.agent_request.specs.Request.{in_use}
-use Rattle.agent_c_rules.specs.Boundary.{AskRefusedKeeps}
-use Rattle.agent_c_rules.specs.declared.Asked.{Asked}
+use Rattle.agent_c_rules.specs.Boundary.{Asked, AskRefusedKeeps}
 
 pub ask_refused_keeps : AskRefusedKeeps
 ask_refused_keeps q r m =

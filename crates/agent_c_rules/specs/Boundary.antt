@@ -7,11 +7,8 @@ use Rattle.agent_rules.specs.Answers.{numbers_of}
 use Rattle.agent_rules.specs.declared.Verb.{Verb}
 use Rattle.agent_rules.specs.declared.Verb.TheVariants as verb
 use Rattle.agent_rules.specs.declared.Answer.{Answer}
-use Rattle.agent_rules.specs.declared.Taken.{Taken}
 use Rattle.agent_c_rules.specs.declared.CVerb.{CVerb}
 use Rattle.agent_c_rules.specs.declared.CTold.{CTold}
-use Rattle.agent_c_rules.specs.declared.Moved.{Moved}
-use Rattle.agent_c_rules.specs.declared.Asked.{Asked}
 
 -- Decision 33: the kinds of verb: 0 none, 1 add with its number, 2 read, 3 swap with the old word and the new one. A number that is not used is 0.
 abbrev pub verb_of : Verb → CVerb
@@ -24,9 +21,10 @@ verb_of (verb.Swap old new) = record { kind = 3; first = old; second = new }
 abbrev pub told_of : Answer → CTold
 told_of a = record { number = (numbers_of a).number; outcome = (numbers_of a).outcome; ahead = (numbers_of a).value }
 
--- What the request becomes, with what is told.
-abbrev pub moved_of : Taken → Moved
-moved_of t = record { request = t.request; told = told_of t.answer }
+-- What the request becomes when it is to ask, with the number of rule 5.1.
+pub record Asked : Type 0 where
+  pub request : Request
+  pub number : ℕ
 
 -- A request that stays as it is, refused with a number.
 abbrev refused_by : ℕ → Request → Asked

@@ -4,10 +4,9 @@ use Rattle.agent_request.specs.declared.Request.{Request}
 use Rattle.agent_rules.specs.Life.{step_sends, release_sends, step_takes, release_takes}
 use Rattle.agent_rules.specs.Care.{care_sends, care_takes}
 use Rattle.agent_rules.specs.declared.Taken.{Taken}
-use Rattle.agent_c_rules.specs.Boundary.{verb_of, told_of, asked_of}
+use Rattle.agent_c_rules.specs.Boundary.{verb_of, told_of, Asked, asked_of}
 use Rattle.agent_c_rules.specs.declared.CVerb.{CVerb}
 use Rattle.agent_c_rules.specs.declared.CTold.{CTold}
-use Rattle.agent_c_rules.specs.declared.Asked.{Asked}
 
 -- {record, mode, phase, x, s, clearing}
 abbrev kept : ℕ → ℕ → ℕ → ℕ → ℕ → ℕ → Request

@@ -3,31 +3,21 @@
 #![tactic(auto)]
 
 ghost use Rattle.std.specs.Prelude.{◌≡◌};
-ghost use Rattle.agent_rules.specs.Life.{freed};
 ghost use Rattle.agent_rules.specs.Care.{care_sends, care_takes};
-ghost use Rattle.agent_rules.specs.declared.Answer.TheVariants.{FreedUnasked};
 
-use agent_request::{Phase, Request, phase_of};
+use agent_request::{Phase, Request};
 use agent_rules::{Answer, Taken, Verb};
 
+// Two matches, and no table of functions: none may be handed out.
 // What a care of the request sends; Nothing where the request is Asking, and where a care is refused.
 #[tactic(auto, unfolding(agent_rules::specs::Care::care_sends))]
 pub fn care_sends(q: Request) -> Verb
     ensures { result ≡ care_sends q }
 {
-    match phase_of(q.phase) {
+    match Phase::from(q.phase) {
         Phase::Asking => Verb::Nothing,
         Phase::Held => agent_sends::release_sends(q),
         _ => agent_sends::step_sends(q),
-    }
-}
-
-fn freed_unasked() -> Taken
-    ensures { result ≡ freed FreedUnasked }
-{
-    Taken {
-        request: agent_request::free(),
-        answer: Answer::FreedUnasked,
     }
 }
 
@@ -36,8 +26,11 @@ fn freed_unasked() -> Taken
 pub fn care_takes(q: Request, v: u64) -> Taken
     ensures { result ≡ care_takes q v }
 {
-    match phase_of(q.phase) {
-        Phase::Asking => freed_unasked(),
+    match Phase::from(q.phase) {
+        Phase::Asking => Taken {
+            request: agent_request::free(),
+            answer: Answer::FreedUnasked,
+        },
         Phase::Held => agent_takes::release_takes(q, v),
         _ => agent_takes::step_takes(q, v),
     }

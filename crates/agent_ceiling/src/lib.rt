@@ -7,7 +7,7 @@ ghost use Rattle.agent_ceiling.specs.Ceiling.{full_at, rest_of, clearing_word_of
 
 use agent_request::NONE;
 use agent_ticket::Mode;
-use word_counter::{Exclusive, Shared};
+use word_counter::{Counting, Exclusive, Shared};
 use word_layout::Counters;
 
 // As many tickets of one kind are given before the record is cleared.
@@ -26,7 +26,7 @@ pub fn full(p: Counters) -> bool
 fn rest(x: Exclusive, s: Shared) -> u64
     ensures { result ≡ rest_of x s }
 {
-    word_layout::join(Counters {
+    u64::from(Counters {
         nx: x,
         ns: s,
         mx: x,
@@ -34,23 +34,14 @@ fn rest(x: Exclusive, s: Shared) -> u64
     })
 }
 
-// The clearing word that comes with a ticket drawn at the counters p, or 0.
+// The clearing word that comes with a ticket drawn at the counters p, or NONE, as a request keeps it.
 #[tactic(auto, unfolding(crate::specs::Ceiling::clearing_word_of))]
 pub fn clearing_word(mode: Mode, p: Counters) -> u64
     ensures { result ≡ clearing_word_of mode p }
 {
     match mode {
-        Mode::Reader => {
-            if p.ms.equals(Shared(LAST)) {
-                return rest(p.mx, Shared(CEIL));
-            }
-            NONE
-        }
-        Mode::Writer => {
-            if p.mx.equals(Exclusive(LAST)) {
-                return rest(Exclusive(CEIL), p.ms);
-            }
-            NONE
-        }
+        Mode::Reader if p.ms.equals(Shared(LAST)) => rest(p.mx, Shared(CEIL)),
+        Mode::Writer if p.mx.equals(Exclusive(LAST)) => rest(Exclusive(CEIL), p.ms),
+        _ => NONE,
     }
 }

@@ -6,6 +6,7 @@ ghost use Rattle.agent_rules.specs.Answers.{accepted_with, refused_with, numbers
 
 use agent_rules::{Answer, Numbers};
 
+// These two are the words of the rules (`Answers.antt`), and shorter in each arm than the struct.
 fn refused(number: u8) -> Numbers
     ensures { result ≡ refused_with number }
 {
@@ -26,7 +27,7 @@ fn accepted(outcome: u8, value: u64) -> Numbers
     }
 }
 
-// The number, outcome and value of an answer.
+// The number, outcome and value of an answer. A function, and no `From`: both types are those of `agent_rules`, which holds definitions alone.
 pub fn numbers_of(a: Answer) -> Numbers
     ensures { result ≡ numbers_of a }
 {

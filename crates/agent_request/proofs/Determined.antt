@@ -4,10 +4,10 @@
 use mathlib.Core.Path.{refl}
 use Rattle.common.specs.Determined.{Determined}
 use Rattle.common.proofs.OnlyOne.{only_one}
-use Rattle.agent_request.proofs.phase_number.Kinds as phase-number-kinds
-use Rattle.agent_request.proofs.phase_number.Reads as phase-number-reads
-use Rattle.agent_request.proofs.phase_of.Kinds as phase-of-kinds
-use Rattle.agent_request.proofs.phase_of.Reads as phase-of-reads
+use Rattle.agent_request.proofs.U8FromPhase.from.Kinds as phase-number-kinds
+use Rattle.agent_request.proofs.U8FromPhase.from.Reads as phase-number-reads
+use Rattle.agent_request.proofs.PhaseFromU8.from.Kinds as phase-of-kinds
+use Rattle.agent_request.proofs.PhaseFromU8.from.Reads as phase-of-reads
 use Rattle.agent_request.proofs.mode_of.Kinds as mode-of-kinds
 use Rattle.agent_request.proofs.mode_of.Reads as mode-of-reads
 use Rattle.agent_request.proofs.in_use.Kinds as in-use-kinds

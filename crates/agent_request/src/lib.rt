@@ -8,12 +8,12 @@ ghost use Rattle.agent_request.specs.Request.{phase_number, phase_of, mode_of, i
 use agent_ticket::{Mode, Ticket};
 use word_counter::{Exclusive, Shared};
 
-// How a request keeps that it has no clearing word.
+// How a request keeps that it has no clearing word. A number, no `Option`: the C interface has a request as 16 bytes, all 0 when free.
 pub const NONE: u64 = 0;
 
 // A request: plain numbers that C can hold, 16 bytes, all 0 when free. A clearing word of 0 is none.
 #[repr(C)]
-#[derive(Clone, Copy)]
+#[derive(Clone, Copy, PartialEq, Eq, Debug)]
 pub struct Request {
     pub record: u16,
     pub mode: u8,
@@ -22,45 +22,43 @@ pub struct Request {
     pub clearing: u64,
 }
 
-#[derive(Clone, Copy)]
+#[derive(Clone, Copy, PartialEq, Eq, Debug)]
 pub enum Phase {
-    Free,
-    Asking,
-    Waiting,
-    Held,
-    Owing,
-    Clearing,
+    Free = 0,
+    Asking = 1,
+    Waiting = 2,
+    Held = 3,
+    Owing = 4,
+    Clearing = 5,
 }
 
 // The number that a phase is kept as.
-pub fn phase_number(p: Phase) -> u8
-    ensures { result ≡ phase_number p }
-{
-    match p {
-        Phase::Free => 0,
-        Phase::Asking => 1,
-        Phase::Waiting => 2,
-        Phase::Held => 3,
-        Phase::Owing => 4,
-        Phase::Clearing => 5,
+impl From<Phase> for u8 {
+    ghost from_gives = { λ p n. n ≡ phase_number p };
+
+    fn from(p: Phase) -> u8 {
+        p as u8
     }
 }
 
 // The phase of a kept number: any number but 1 to 5 counts as free.
-pub fn phase_of(n: u8) -> Phase
-    ensures { result ≡ phase_of n }
-{
-    match n {
-        1 => Phase::Asking,
-        2 => Phase::Waiting,
-        3 => Phase::Held,
-        4 => Phase::Owing,
-        5 => Phase::Clearing,
-        _ => Phase::Free,
+impl From<u8> for Phase {
+    ghost from_gives = { λ n p. p ≡ phase_of n };
+
+    fn from(n: u8) -> Phase {
+        match n {
+            1 => Phase::Asking,
+            2 => Phase::Waiting,
+            3 => Phase::Held,
+            4 => Phase::Owing,
+            5 => Phase::Clearing,
+            _ => Phase::Free,
+        }
     }
 }
 
 // The mode of a kept number: any number but 0 counts as 1.
+// A function, not `From`: neither type is of this crate, and `agent_ticket`, which has `Mode`, knows of no kept number (rule 2.2).
 pub fn mode_of(n: u8) -> Mode
     ensures { result ≡ mode_of n }
 {
@@ -71,15 +69,7 @@ pub fn mode_of(n: u8) -> Mode
 pub fn in_use(q: Request) -> bool
     ensures { result ≡ in_use q }
 {
-    let phase = phase_of(q.phase);
-    match phase {
-        Phase::Free => false,
-        Phase::Asking => true,
-        Phase::Waiting => true,
-        Phase::Held => true,
-        Phase::Owing => true,
-        Phase::Clearing => true,
-    }
+    Phase::from(q.phase) != Phase::Free
 }
 
 // The one content of a free slot.
@@ -89,7 +79,7 @@ pub fn free() -> Request
     Request {
         record: 0,
         mode: 0,
-        phase: 0,
+        phase: u8::from(Phase::Free),
         ticket: Ticket(Exclusive(0), Shared(0)),
         clearing: NONE,
     }
@@ -102,9 +92,8 @@ pub fn opened(record: u16, mode: u8) -> Request
     Request {
         record,
         mode,
-        phase: 1,
-        ticket: Ticket(Exclusive(0), Shared(0)),
-        clearing: NONE,
+        phase: u8::from(Phase::Asking),
+        ..free()
     }
 }
 
@@ -112,7 +101,8 @@ pub fn opened(record: u16, mode: u8) -> Request
 pub fn in_phase(q: Request, p: Phase) -> Request
     ensures { result ≡ in_phase p q }
 {
-    let mut next = q;
-    next.phase = phase_number(p);
-    next
+    Request {
+        phase: u8::from(p),
+        ..q
+    }
 }

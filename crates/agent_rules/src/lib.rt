@@ -4,7 +4,8 @@
 use agent_request::Request;
 
 // A verb to send: none, add with its number, read, or swap with the old word and the new one.
-#[derive(Clone, Copy)]
+// Nothing is one of them, and there is no `Option`: the documents name it as a verb (docs/DECISIONS.md).
+#[derive(Clone, Copy, PartialEq, Eq, Debug)]
 pub enum Verb {
     Nothing,
     Add(u64),
@@ -13,7 +14,7 @@ pub enum Verb {
 }
 
 // What a request is told; Waiting carries the number ahead.
-#[derive(Clone, Copy)]
+#[derive(Clone, Copy, PartialEq, Eq, Debug)]
 pub enum Answer {
     WrongPhase,
     Granted,
@@ -29,14 +30,15 @@ pub enum Answer {
 }
 
 // What a request became, with what it is told.
-#[derive(Clone, Copy)]
+#[derive(Clone, Copy, PartialEq, Eq, Debug)]
 pub struct Taken {
     pub request: Request,
     pub answer: Answer,
 }
 
 // An answer in numbers: the table's number, the outcome, and the number ahead where the outcome is waiting.
-#[derive(Clone, Copy)]
+// Numbers, and no `Result`: a caller in C and the report of a run get these, by rules 5.1 and 5.3.
+#[derive(Clone, Copy, PartialEq, Eq, Debug)]
 pub struct Numbers {
     pub number: u8,
     pub outcome: u8,

@@ -9,6 +9,7 @@ use agent_rules::Verb;
 use agent_ticket::Mode;
 use word_layout::Counter;
 
+// Two words of the rules (`Life.antt`): a step needs the one, a release the other.
 fn ticket_counter(m: Mode) -> Counter
     ensures { result ≡ ticket_counter m }
 {
@@ -32,12 +33,10 @@ fn release_counter(m: Mode) -> Counter
 pub fn step_sends(q: Request) -> Verb
     ensures { result ≡ step_sends q }
 {
-    let phase = agent_request::phase_of(q.phase);
-    match phase {
-        Phase::Free => Verb::Nothing,
+    match Phase::from(q.phase) {
+        Phase::Free | Phase::Held => Verb::Nothing,
         Phase::Asking => Verb::Add(word_layout::step(ticket_counter(mode_of(q.mode)))),
         Phase::Waiting => Verb::Read,
-        Phase::Held => Verb::Nothing,
         Phase::Owing => Verb::Add(word_layout::back(ticket_counter(mode_of(q.mode)))),
         Phase::Clearing => Verb::Swap(q.clearing, 0),
     }
@@ -48,9 +47,8 @@ pub fn step_sends(q: Request) -> Verb
 pub fn release_sends(q: Request) -> Verb
     ensures { result ≡ release_sends q }
 {
-    let phase = agent_request::phase_of(q.phase);
-    let Phase::Held = phase else {
-        return Verb::Nothing;
-    };
-    Verb::Add(word_layout::step(release_counter(mode_of(q.mode))))
+    match Phase::from(q.phase) {
+        Phase::Held => Verb::Add(word_layout::step(release_counter(mode_of(q.mode)))),
+        _ => Verb::Nothing,
+    }
 }

@@ -6,12 +6,12 @@
 ghost use Rattle.std.specs.Prelude.{◌≡◌};
 ghost use Rattle.agent_rules.specs.Life.{becomes, freed, waited, ticketed, asked, swapped, let_go, step_takes, release_takes};
 
-use agent_request::{Phase, Request, in_phase, mode_of};
+use agent_request::{NONE, Phase, Request, in_phase, mode_of};
 use agent_rules::{Answer, Taken};
 use agent_ticket::{Ticket, Turn};
 use word_layout::Counters;
 
-// What a request became, with what it is told.
+// What a request became, with what it is told: the word of the rules (`Life.antt`), and shorter in each arm than the struct.
 fn becomes(q: Request, a: Answer) -> Taken
     ensures { result ≡ becomes q a }
 {
@@ -42,14 +42,10 @@ fn waited_with(q: Request, v: Counters) -> Taken
 fn with_ticket(q: Request, p: Counters) -> Request
     ensures { result ≡ ticketed q p }
 {
-    let mx = p.mx;
-    let ms = p.ms;
     Request {
-        record: q.record,
-        mode: q.mode,
-        phase: q.phase,
-        ticket: Ticket(mx, ms),
+        ticket: Ticket(p.mx, p.ms),
         clearing: agent_ceiling::clearing_word(mode_of(q.mode), p),
+        ..q
     }
 }
 
@@ -59,9 +55,10 @@ fn asked_with(q: Request, p: Counters) -> Taken
     ensures { result ≡ asked q p }
 {
     if agent_ceiling::full(p) {
-        return becomes(in_phase(q, Phase::Owing), Answer::Full);
+        becomes(in_phase(q, Phase::Owing), Answer::Full)
+    } else {
+        waited_with(with_ticket(q, p), p)
     }
-    waited_with(with_ticket(q, p), p)
 }
 
 // Clearing, with v the word that the swap returned.
@@ -69,19 +66,21 @@ fn swapped_with(q: Request, v: u64) -> Taken
     ensures { result ≡ swapped q v }
 {
     if v == q.clearing {
-        return freed(Answer::Cleared);
+        freed(Answer::Cleared)
+    } else {
+        becomes(q, Answer::NotYetClear)
     }
-    becomes(q, Answer::NotYetClear)
 }
 
 // Held, let go.
 fn let_go(q: Request) -> Taken
     ensures { result ≡ let_go q }
 {
-    if q.clearing == 0 {
-        return freed(Answer::Released);
+    if q.clearing == NONE {
+        freed(Answer::Released)
+    } else {
+        becomes(in_phase(q, Phase::Clearing), Answer::ClearingDue)
     }
-    becomes(in_phase(q, Phase::Clearing), Answer::ClearingDue)
 }
 
 // What the request becomes when the result v of its step's verb arrives.
@@ -89,12 +88,10 @@ fn let_go(q: Request) -> Taken
 pub fn step_takes(q: Request, v: u64) -> Taken
     ensures { result ≡ step_takes q v }
 {
-    let phase = agent_request::phase_of(q.phase);
-    match phase {
-        Phase::Free => becomes(q, Answer::WrongPhase),
-        Phase::Asking => asked_with(q, word_layout::split(v)),
-        Phase::Waiting => waited_with(q, word_layout::split(v)),
-        Phase::Held => becomes(q, Answer::WrongPhase),
+    match Phase::from(q.phase) {
+        Phase::Free | Phase::Held => becomes(q, Answer::WrongPhase),
+        Phase::Asking => asked_with(q, Counters::from(v)),
+        Phase::Waiting => waited_with(q, Counters::from(v)),
         Phase::Owing => freed(Answer::Withdrawn),
         Phase::Clearing => swapped_with(q, v),
     }
@@ -105,9 +102,8 @@ pub fn step_takes(q: Request, v: u64) -> Taken
 pub fn release_takes(q: Request, v: u64) -> Taken
     ensures { result ≡ release_takes q v }
 {
-    let phase = agent_request::phase_of(q.phase);
-    let Phase::Held = phase else {
-        return becomes(q, Answer::WrongPhase);
-    };
-    let_go(q)
+    match Phase::from(q.phase) {
+        Phase::Held => let_go(q),
+        _ => becomes(q, Answer::WrongPhase),
+    }
 }

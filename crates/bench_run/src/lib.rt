@@ -10,7 +10,6 @@ pub extern "C" fn brancove_bench_run(words: &mut [u64], schedule: &[u8], report:
     ensures { Benched words.old schedule.now report.old result words.new report.new }
 {
     let begun = board_begin::begin(board_begin::fresh(), words);
-    let board = begun.board;
-    let ran = run_play::run(board, words, schedule, 0, 1099511627776, report);
+    let ran = run_play::run(begun.board, words, schedule, 0, 1099511627776, report);
     ran.verbs as u64
 }

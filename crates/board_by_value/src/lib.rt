@@ -10,81 +10,84 @@ ghost use Rattle.board_nodes.specs.Leaves.{Leaves, lent_to};
 ghost use Rattle.board_nodes.specs.Visit.{visited_at};
 
 use board_call::{AnyCall, Call};
-use board_rules::Played;
+use board_rules::{Found, Played, Seen};
 use board_slots::{Board, Map};
 
-// The visit of slot i by a call.
-fn placed(b: Board, words: &mut [u64], o: AnyCall, i: usize) -> Played
+// Request and words go to a visit side by side: the one is handed over, the others are lent.
+// The visit of slot i by a call. It and `played` are inlined, so that a call copies the table less often and takes less of the stack.
+#[inline(always)]
+fn placed(mut b: Board, words: &mut [u64], o: AnyCall, i: usize) -> Played
     requires { i < 256 }
     ensures { Leaves (visited_at o (lent_to b words.old) i) result words.new }
 {
-    let mut next = b;
-    let q = next.slots[i];
-    let node = next.nodes[i];
+    let node = b.nodes[i];
     let g = board_gate::watched_node(o, node) as usize;
-    let shut = next.fenced[g];
-    let d = board_visit_any::any_visit(o, i, shut, q, words);
-    let request = d.request;
-    let answer = d.answer;
-    next.slots[i] = request;
-    next.nodes[i] = board_gate::kept_node(o, q, request, node);
-    next.fenced[g] = board_gate::fence_after(o, shut);
-    Played {
-        board: next,
-        answer,
-    }
+    let found = Found {
+        slot: i,
+        request: b.slots[i],
+        shut: b.fenced[g],
+    };
+    let Seen { request, answer } = board_visit_any::any_visit(o, found, words);
+    b.slots[i] = request;
+    b.nodes[i] = board_gate::kept_node(o, found.request, request, node);
+    b.fenced[g] = board_gate::fence_after(o, found.shut);
+    Played { board: b, answer }
 }
 
-// Takes the lowest free slot, for node 0, for a request that is to ask.
+// Plays a call as the visit of the slot that it aims at. Only an open looks at the map, so no other call has it made.
+#[inline(always)]
 #[tactic(auto, using(board_rules::proofs::Visits::aim_small))]
+fn played(b: Board, words: &mut [u64], o: AnyCall) -> Played
+    ensures { Leaves (played_at o (lent_to b words.old)) result words.new }
+{
+    let c = board_gate::reported_as(o);
+    let map = match c {
+        Call::Open(_, _) => board_map_kept::map_of(b),
+        _ => Map { parts: [0; 4] },
+    };
+    placed(b, words, o, board_visit_aim::aim(c, map))
+}
+
+// Here and below board and words are two: the caller lends the words and hands over the board.
+// Takes the lowest free slot, for node 0, for a request that is to ask.
 pub fn open(b: Board, words: &mut [u64], record: u64, mode: u64) -> Played
     ensures { Leaves (played_at (Base (Open «record» mode)) (lent_to b words.old)) result words.new }
 {
-    let i = board_visit_aim::aim(Call::Open(record, mode), board_map_kept::map_of(b));
-    placed(b, words, AnyCall::Base(Call::Open(record, mode)), i)
+    played(b, words, AnyCall::Base(Call::Open(record, mode)))
 }
 
 // The same for any node.
-#[tactic(auto, using(board_rules::proofs::Visits::aim_small))]
 pub fn open_as(b: Board, words: &mut [u64], record: u64, mode: u64, node: u8) -> Played
     ensures { Leaves (played_at (OpenAs «record» mode node) (lent_to b words.old)) result words.new }
 {
-    let i = board_visit_aim::aim(Call::Open(record, mode), board_map_kept::map_of(b));
-    placed(b, words, AnyCall::OpenAs(record, mode, node), i)
+    played(b, words, AnyCall::OpenAs(record, mode, node))
 }
 
+// Words and slot side by side: a slot is what the call names.
 // Sends the phase's verb of a slot and takes its result.
-#[tactic(auto, using(board_rules::proofs::Visits::aim_small))]
 pub fn step(b: Board, words: &mut [u64], slot: u64) -> Played
     ensures { Leaves (played_at (Base (Step slot)) (lent_to b words.old)) result words.new }
 {
-    let i = board_visit_aim::aim(Call::Step(slot), Map { parts: [0u64; 4] });
-    placed(b, words, AnyCall::Base(Call::Step(slot)), i)
+    played(b, words, AnyCall::Base(Call::Step(slot)))
 }
 
 // Sends the release verb of a slot and takes its result.
-#[tactic(auto, using(board_rules::proofs::Visits::aim_small))]
 pub fn release(b: Board, words: &mut [u64], slot: u64) -> Played
     ensures { Leaves (played_at (Base (Release slot)) (lent_to b words.old)) result words.new }
 {
-    let i = board_visit_aim::aim(Call::Release(slot), Map { parts: [0u64; 4] });
-    placed(b, words, AnyCall::Base(Call::Release(slot)), i)
+    played(b, words, AnyCall::Base(Call::Release(slot)))
 }
 
 // Fences a node: its slots are left to a caretaker, and it opens none.
-#[tactic(auto, using(board_rules::proofs::Visits::aim_small))]
 pub fn fence(b: Board, words: &mut [u64], node: u8) -> Played
     ensures { Leaves (played_at (Fence node) (lent_to b words.old)) result words.new }
 {
-    let i = board_visit_aim::aim(Call::Show(0), Map { parts: [0u64; 4] });
-    placed(b, words, AnyCall::Fence(node), i)
+    played(b, words, AnyCall::Fence(node))
 }
 
 // Cares for a slot of a fenced node: frees a request that asks, releases one that holds, and steps any other.
-#[tactic(auto, using(board_rules::proofs::Visits::aim_small))]
 pub fn care(b: Board, words: &mut [u64], slot: u64) -> Played
     ensures { Leaves (played_at (Care slot) (lent_to b words.old)) result words.new }
 {
-    let i = board_visit_aim::aim(Call::Step(slot), Map { parts: [0u64; 4] });
-    placed(b, words, AnyCall::Care(slot), i)
+    played(b, words, AnyCall::Care(slot))
 }

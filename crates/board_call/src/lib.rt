@@ -2,7 +2,7 @@
 // and `board_nodes`, how it is written in bytes in `schedule_bytes`.
 #![tactic(auto)]
 
-#[derive(Clone, Copy)]
+#[derive(Clone, Copy, PartialEq, Eq, Debug)]
 pub enum Call {
     // record, mode
     Open(u64, u64),
@@ -15,7 +15,7 @@ pub enum Call {
 }
 
 // Any call: one of the four above, made by node 0 where it opens, or one for lost nodes.
-#[derive(Clone, Copy)]
+#[derive(Clone, Copy, PartialEq, Eq, Debug)]
 pub enum AnyCall {
     Base(Call),
     // record, mode, node

@@ -1,9 +1,11 @@
 -- Each public function of `board_gate`, and why its contract determines it: the contract equates the outcome with a definition, and two
--- things that equal a third are equal (`only_one`, the single law). A function that is missing here is a defect.
+-- things that equal a third are equal (`only_one`); of a gate it equates the number, by which the outcome is known (`known_by_number`). A function
+-- that is missing here is a defect.
 -- Assumes nothing.
 use mathlib.Core.Path.{refl}
 use Rattle.common.specs.Determined.{Determined}
 use Rattle.common.proofs.OnlyOne.{only_one}
+use Rattle.board_rules.proofs.Given.{known_by_number}
 use Rattle.board_gate.proofs.reported_as.Kinds as reported-as-kinds
 use Rattle.board_gate.proofs.reported_as.Reads as reported-as-reads
 use Rattle.board_gate.proofs.watched_node.Kinds as watched-node-kinds
@@ -30,7 +32,7 @@ fence_after_determined : Determined 0 fence-after-kinds.ps fence-after-kinds.r f
 fence_after_determined κs a z z' ws ws' p q = (only_one p q, refl)
 
 open_gate_determined : Determined 1 open-gate-kinds.ps open-gate-kinds.r open-gate-reads.Post
-open_gate_determined κs a z z' ws ws' p q = (only_one p q, refl)
+open_gate_determined κs a z z' ws ws' p q = (known_by_number z z' (only_one p q), refl)
 
 gate_determined : Determined 1 gate-kinds.ps gate-kinds.r gate-reads.Post
-gate_determined κs a z z' ws ws' p q = (only_one p q, refl)
+gate_determined κs a z z' ws ws' p q = (known_by_number z z' (only_one p q), refl)

@@ -1,16 +1,17 @@
-// What is particular to nodes in a call: as which call of the base it is reported, the node whose fence it looks at, the number with which that fence
-// refuses it, and what node and fence are afterwards. It relies on the contracts of `agent_request` and `board_records` alone.
+// What is particular to nodes in a call: as which call of the base it is reported, the node whose fence it looks at, whether that fence refuses
+// it, and what node and fence are afterwards. It relies on the contracts of `agent_request` and `board_records` alone.
 #![tactic(auto)]
 
 ghost use Rattle.std.specs.Prelude.{◌≡◌};
 ghost use Rattle.common.specs.Choice.{when◌then◌else◌};
-ghost use Rattle.board_call.specs.declared.AnyCall.TheVariants.{Base};
+ghost use Rattle.board_rules.specs.Records.{refusal_number, number_given};
 ghost use Rattle.board_nodes.specs.Site.{kept_node, opens_shut, used_shut};
 ghost use Rattle.board_nodes.specs.Answers.{reported_as};
 ghost use Rattle.board_nodes.specs.Visit.{watched_node, opening_node, fence_after, gate_of};
 
 use agent_request::Request;
 use board_call::{AnyCall, Call};
+use board_rules::Refusal;
 
 // As which call of the base a call is reported.
 pub fn reported_as(o: AnyCall) -> Call
@@ -24,27 +25,14 @@ pub fn reported_as(o: AnyCall) -> Call
     }
 }
 
-// A plain open looks at node 0, any other call of the base at the node of its slot.
-fn base_node(c: Call, n: u8) -> u8
-    ensures { result ≡ watched_node (Base c) n }
-{
-    match c {
-        Call::Open(_, _) => 0,
-        Call::Step(_) => n,
-        Call::Release(_) => n,
-        Call::Show(_) => n,
-    }
-}
-
 // The node whose fence a call looks at or sets, n being the node of the slot that it visits.
 pub fn watched_node(o: AnyCall, n: u8) -> u8
     ensures { result ≡ watched_node o n }
 {
     match o {
-        AnyCall::Base(c) => base_node(c, n),
-        AnyCall::OpenAs(_, _, k) => k,
-        AnyCall::Fence(k) => k,
-        AnyCall::Care(_) => n,
+        AnyCall::Base(Call::Open(_, _)) => 0,
+        AnyCall::OpenAs(_, _, node) | AnyCall::Fence(node) => node,
+        AnyCall::Base(_) | AnyCall::Care(_) => n,
     }
 }
 
@@ -53,10 +41,8 @@ fn opening_node(o: AnyCall) -> u8
     ensures { result ≡ opening_node o }
 {
     match o {
-        AnyCall::Base(_) => 0,
-        AnyCall::OpenAs(_, _, k) => k,
-        AnyCall::Fence(_) => 0,
-        AnyCall::Care(_) => 0,
+        AnyCall::OpenAs(_, _, node) => node,
+        AnyCall::Base(_) | AnyCall::Fence(_) | AnyCall::Care(_) => 0,
     }
 }
 
@@ -64,91 +50,60 @@ fn opening_node(o: AnyCall) -> u8
 pub fn kept_node(o: AnyCall, before: Request, after: Request, n: u8) -> u8
     ensures { result ≡ kept_node (opening_node o) before after n }
 {
-    if agent_request::in_use(after) {
-        if agent_request::in_use(before) {
-            return n;
-        }
-        return opening_node(o);
+    match (agent_request::in_use(before), agent_request::in_use(after)) {
+        (false, true) => opening_node(o),
+        (true, false) => 0,
+        _ => n,
     }
-    if agent_request::in_use(before) {
-        return 0;
-    }
-    n
 }
 
 // Whether the fence that a call looks at is there afterwards.
 pub fn fence_after(o: AnyCall, shut: bool) -> bool
     ensures { result ≡ fence_after o shut }
 {
-    match o {
-        AnyCall::Base(_) => shut,
-        AnyCall::OpenAs(_, _, _) => shut,
-        AnyCall::Fence(_) => true,
-        AnyCall::Care(_) => shut,
-    }
+    shut || matches!(o, AnyCall::Fence(_))
 }
 
 // A good open by a node that is shut out.
 fn opens_shut(record: u64, mode: u64, shut: bool, words: &[u64]) -> bool
     ensures { result ≡ opens_shut «record» mode shut words.now }
 {
-    if !shut {
-        return false;
-    }
-    if 1 < mode {
-        return false;
-    }
-    board_records::is_record(record, words.len())
+    shut && mode <= 1 && board_records::is_record(record, words.len())
 }
 
 // A slot of the board that is in use, and shut.
 fn used_shut(i: u64, q: Request, shut: bool) -> bool
     ensures { result ≡ used_shut i q shut }
 {
-    if !shut {
-        return false;
-    }
-    if 256 <= i {
-        return false;
-    }
-    agent_request::in_use(q)
+    shut && i < 256 && agent_request::in_use(q)
 }
 
-fn number_if(refuses: bool, number: u8) -> u8
-    ensures { result ≡ (when refuses then number else 0) }
+// Refuses for a reason, or lets through.
+fn pass_unless(refuses: bool, why: Refusal) -> Result<(), Refusal>
+    ensures { number_given result ≡ (when refuses then refusal_number why else 0) }
 {
-    if refuses {
-        return number;
-    }
-    0
+    if refuses { Err(why) } else { Ok(()) }
 }
 
-// The number with which a fence refuses an open, 0 where it lets it through.
-pub fn open_gate(record: u64, mode: u64, shut: bool, words: &[u64]) -> u8
-    ensures { result ≡ (when opens_shut «record» mode shut words.now then 14 else 0) }
+// Whether a fence lets an open through.
+pub fn open_gate(record: u64, mode: u64, shut: bool, words: &[u64]) -> Result<(), Refusal>
+    ensures { number_given result ≡ (when opens_shut «record» mode shut words.now then 14 else 0) }
 {
-    number_if(opens_shut(record, mode, shut, words), 14)
+    pass_unless(opens_shut(record, mode, shut, words), Refusal::NodeIsFenced)
 }
 
-fn base_gate(c: Call, shut: bool, q: Request, words: &[u64]) -> u8
-    ensures { result ≡ gate_of (Base c) shut q words.now }
-{
-    match c {
-        Call::Open(record, mode) => open_gate(record, mode, shut, words),
-        Call::Step(slot) => number_if(used_shut(slot, q, shut), 15),
-        Call::Release(slot) => number_if(used_shut(slot, q, shut), 15),
-        Call::Show(_) => 0,
-    }
-}
-
-// The number with which a fence refuses a call on a slot whose request is q, 0 where it lets it through.
-pub fn gate(o: AnyCall, shut: bool, q: Request, words: &[u64]) -> u8
-    ensures { result ≡ gate_of o shut q words.now }
+// Whether a fence lets a call through on a slot whose request is q.
+pub fn gate(o: AnyCall, shut: bool, q: Request, words: &[u64]) -> Result<(), Refusal>
+    ensures { number_given result ≡ gate_of o shut q words.now }
 {
     match o {
-        AnyCall::Base(c) => base_gate(c, shut, q, words),
-        AnyCall::OpenAs(record, mode, _) => open_gate(record, mode, shut, words),
-        AnyCall::Fence(_) => 0,
-        AnyCall::Care(slot) => number_if(used_shut(slot, q, !shut), 16),
+        AnyCall::Base(Call::Open(record, mode)) | AnyCall::OpenAs(record, mode, _) => {
+            open_gate(record, mode, shut, words)
+        }
+        AnyCall::Base(Call::Step(slot) | Call::Release(slot)) => {
+            pass_unless(used_shut(slot, q, shut), Refusal::SlotIsFenced)
+        }
+        AnyCall::Care(slot) => pass_unless(used_shut(slot, q, !shut), Refusal::SlotIsNotFenced),
+        AnyCall::Base(Call::Show(_)) | AnyCall::Fence(_) => Ok(()),
     }
 }

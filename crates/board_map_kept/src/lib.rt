@@ -1,31 +1,22 @@
 // A map of four u64 over the table of slots: made of a table, and marked where a slot changes. It relies on the contract of `agent_request` alone.
 #![tactic(auto)]
 
-ghost use Rattle.std.specs.Prelude.{◌≡◌, ◌%◌, ◌^◌, ◌≤◌, take, drop};
-ghost use Rattle.board_slots.specs.Map.{bit_of, bits_of, map_of, plus, marked_of};
+ghost use Rattle.std.specs.Prelude.{◌≡◌, ◌≤◌, length};
+ghost use Rattle.board_slots.specs.Map.{bits_of, map_of, plus, marked_of};
 
 use agent_request::Request;
 use board_slots::{Board, Map};
 
-fn bit(q: Request) -> u64
-    ensures { result ≡ bit_of q }
+// The bits of 64 slots or fewer, the first slot's lowest.
+fn bits(slots: &[Request]) -> u64
+    requires { length slots.now ≤ 64 }
+    ensures { result ≡ bits_of slots.now }
 {
-    if agent_request::in_use(q) {
-        return 1;
-    }
-    0
-}
-
-// The bits of the 64 slots from a place on.
-fn part(b: Board, from: usize) -> u64
-    requires { from ≤ 192 }
-    ensures { result ≡ bits_of (take 64 (drop from b.slots)) }
-{
-    let mut bits: u64 = 0;
-    let mut j: usize = 64;
-    while 0 < j {
-        j -= 1;
-        bits = bits * 2 + bit(b.slots[from + j]);
+    let mut bits = 0u64;
+    for (j, q) in slots.iter().enumerate() {
+        if agent_request::in_use(*q) {
+            bits += 1 << j;
+        }
     }
     bits
 }
@@ -34,44 +25,20 @@ fn part(b: Board, from: usize) -> u64
 pub fn map_of(b: Board) -> Map
     ensures { result.parts ≡ map_of b.slots }
 {
-    let first = part(b, 0);
-    let second = part(b, 64);
-    let third = part(b, 128);
-    let fourth = part(b, 192);
     Map {
-        parts: [first, second, third, fourth],
+        parts: std::array::from_fn(|k| bits(&b.slots[64 * k..64 * k + 64])),
     }
 }
 
-// A one at the bit of slot i within its part.
-fn one_at(i: usize) -> u64
-    ensures { result ≡ 2 ^ (i % 64) }
-{
-    1u64 << (i % 64)
-}
-
-// The map with k added to the part of a slot.
-fn plus(m: Map, i: usize, k: u64) -> Map
+// The map with k added to the part of a slot. By its index: `get_mut` left a goal about the lent array open.
+fn plus(mut m: Map, i: usize, k: u64) -> Map
     ensures { result.parts ≡ plus m.parts i k }
 {
-    if 256 <= i {
-        return m;
+    let part = i / 64;
+    if part < m.parts.len() {
+        m.parts[part] = m.parts[part].wrapping_add(k);
     }
-    let mut next = m;
-    if i < 64 {
-        next.parts[0] = std::num::wrapping_add_u64(next.parts[0], k);
-        return next;
-    }
-    if i < 128 {
-        next.parts[1] = std::num::wrapping_add_u64(next.parts[1], k);
-        return next;
-    }
-    if i < 192 {
-        next.parts[2] = std::num::wrapping_add_u64(next.parts[2], k);
-        return next;
-    }
-    next.parts[3] = std::num::wrapping_add_u64(next.parts[3], k);
-    next
+    m
 }
 
 // The map after the request of slot i changed: at most the slot's own bit changes.
@@ -79,15 +46,10 @@ fn plus(m: Map, i: usize, k: u64) -> Map
 pub fn marked(m: Map, i: usize, before: Request, after: Request) -> Map
     ensures { result.parts ≡ marked_of m.parts i before after }
 {
-    let one = one_at(i);
-    if agent_request::in_use(after) {
-        if agent_request::in_use(before) {
-            return m;
-        }
-        return plus(m, i, one);
+    let one = 1u64 << (i % 64);
+    match (agent_request::in_use(before), agent_request::in_use(after)) {
+        (false, true) => plus(m, i, one),
+        (true, false) => plus(m, i, one.wrapping_neg()),
+        _ => m,
     }
-    if agent_request::in_use(before) {
-        return plus(m, i, u64::MAX - one + 1);
-    }
-    m
 }

@@ -5,18 +5,17 @@ ghost use Rattle.std.specs.Prelude.{◌≡◌};
 ghost use Rattle.board_rules.specs.Answers.{named_slot, said_of, verbs_of};
 ghost use Rattle.board_nodes.specs.Answers.{verbs_of_any};
 
+use agent_rules::Numbers;
 use board_call::{AnyCall, Call};
 use board_rules::{Answer, Said};
 
-// The slot that a call names, as one byte; 0 where it names none.
+// The slot that a call names, as one byte; 0 where it names none, as the report has it (rule 7.6).
 fn named_slot(c: Call) -> u8
     ensures { result ≡ named_slot c }
 {
     match c {
-        Call::Open(_, _) => 0,
-        Call::Step(i) => (i % 256) as u8,
-        Call::Release(i) => (i % 256) as u8,
-        Call::Show(_) => 0,
+        Call::Step(slot) | Call::Release(slot) => (slot % 256) as u8,
+        Call::Open(_, _) | Call::Show(_) => 0,
     }
 }
 
@@ -24,64 +23,53 @@ fn named_slot(c: Call) -> u8
 pub fn tell(c: Call, a: Answer) -> Said
     ensures { result ≡ said_of c a }
 {
-    let slot = named_slot(c);
+    let begun = Said {
+        number: 0,
+        outcome: 0,
+        slot: named_slot(c),
+        value: 0,
+    };
     match a {
-        Answer::Refused(number) => Said {
-            number,
-            outcome: 0,
-            slot,
-            value: 0,
-        },
-        Answer::Begun => Said {
-            number: 0,
-            outcome: 0,
-            slot,
-            value: 0,
-        },
-        Answer::Opened(opened) => Said {
-            number: 0,
+        Answer::Refused(number) => Said { number, ..begun },
+        Answer::Begun => begun,
+        Answer::Opened(slot) => Said {
             outcome: 1,
-            slot: opened,
-            value: 0,
+            slot,
+            ..begun
         },
         Answer::Told(told) => {
-            let n = agent_numbers::numbers_of(told);
+            let Numbers {
+                number,
+                outcome,
+                value,
+            } = agent_numbers::numbers_of(told);
             Said {
-                number: n.number,
-                outcome: n.outcome,
-                slot,
-                value: n.value,
+                number,
+                outcome,
+                value,
+                ..begun
             }
         }
         Answer::Shown(word) => Said {
-            number: 0,
             outcome: 10,
-            slot,
             value: word,
+            ..begun
         },
         Answer::Fenced => Said {
-            number: 0,
             outcome: 13,
-            slot,
-            value: 0,
+            ..begun
         },
     }
 }
 
 // One where an accepted step or release sent a verb, else 0.
-#[tactic(auto, using(crate::proofs::Verbs::no_verb, crate::proofs::Verbs::some_verb))]
+#[tactic(auto, unfolding(board_rules::specs::Answers::verbs_of))]
 pub fn verbs_of(c: Call, a: Answer) -> usize
     ensures { result ≡ verbs_of c a }
 {
-    let said = tell(c, a);
-    if said.number != 0 {
-        return 0;
-    }
     match c {
-        Call::Open(_, _) => 0,
-        Call::Step(_) => 1,
-        Call::Release(_) => 1,
-        Call::Show(_) => 0,
+        Call::Step(_) | Call::Release(_) if tell(c, a).number == 0 => 1,
+        _ => 0,
     }
 }
 
@@ -91,9 +79,10 @@ pub fn verbs_of_any(o: AnyCall, a: Answer) -> usize
     ensures { result ≡ verbs_of_any o a }
 {
     let c = board_gate::reported_as(o);
-    let said = tell(c, a);
-    if said.outcome != 12 {
-        return verbs_of(c, a);
+    // by the number 12, as the definition has it
+    if tell(c, a).outcome == 12 {
+        0
+    } else {
+        verbs_of(c, a)
     }
-    0
 }

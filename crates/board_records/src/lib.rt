@@ -16,7 +16,7 @@ pub fn is_record(r: u64, lent: usize) -> bool
     r < lent as u64 && r < 4096
 }
 
-// The request as it was, and the number of the refusal.
+// The request as it was, and the number of the refusal: any number, since a `Refusal` in its place would ask more of callers.
 pub fn refused(q: Request, n: u8) -> Seen
     ensures { result ≡ seen_as q (Refused n) }
 {

@@ -6,3 +6,5 @@ pub mod Care
 pub mod Told
 pub mod Words
 pub mod Table
+pub mod Given
+pub mod Determined

@@ -126,13 +126,13 @@ release_nothing Held q z = refl
 release_nothing Owing q z = refl
 release_nothing Clearing q z = refl
 
-refusal_number : (c : Call) (s : State) → length s.slots ≡ SLOTS → refusal_in (played c s).answer ≡ number_in (lines_of c s)
+refusal_number_law : (c : Call) (s : State) → length s.slots ≡ SLOTS → refusal_in (played c s).answer ≡ number_in (lines_of c s)
 unfolding opened stepped released shown shown_of refusal_of step_sends release_sends
-refusal_number (Open r m) s long =
+refusal_number_law (Open r m) s long =
     open_number (not (is_record r s.words)) (ltb 1 m) (leb SLOTS (lowest_free s.slots)) s _ refl ∙
     ap (λ (x : Bool). when x then 2 else when ltb 1 m then 3 else when leb SLOTS (lowest_free s.slots) then 6 else 0) (no_record_law r s) ∙
     ap (λ (x : Bool). when no_record r s then 2 else when ltb 1 m then 3 else when x then 6 else 0) (none_free_is_all_used s.slots SLOTS long)
-refusal_number (Step i) s long =
+refusal_number_law (Step i) s long =
     let q = slot_at s i in
     named_number (leb SLOTS i) s _ _ (sent_number s i q (step_sends q) (step_takes q)) ∙
     ap (λ (x : Bool). when x then 1 else refusal_of q (step_sends q) s.words) (past 255 i) ∙
@@ -141,7 +141,7 @@ refusal_number (Step i) s long =
     ap (λ (x : Bool). when x then 4 else when held_phase (phase_of q.phase) then 5 else when not (is_record q.«record» s.words) then 2 else 0) (free_as_kept q) ∙
     ap (λ (x : Bool). when is_free q then 4 else when x then 5 else when not (is_record q.«record» s.words) then 2 else 0) (held_as_kept q) ∙
     ap (λ (x : Bool). when is_free q then 4 else when is_held q then 5 else when x then 2 else 0) (no_record_law q.«record» s))
-refusal_number (Release i) s long =
+refusal_number_law (Release i) s long =
     let q = slot_at s i in
     named_number (leb SLOTS i) s _ _ (sent_number s i q (release_sends q) (release_takes q)) ∙
     ap (λ (x : Bool). when x then 1 else refusal_of q (release_sends q) s.words) (past 255 i) ∙
@@ -150,7 +150,7 @@ refusal_number (Release i) s long =
     ap (λ (x : Bool). when x then 4 else when not (held_phase (phase_of q.phase)) then 5 else when not (is_record q.«record» s.words) then 2 else 0) (free_as_kept q) ∙
     ap (λ (x : Bool). when is_free q then 4 else when not x then 5 else when not (is_record q.«record» s.words) then 2 else 0) (held_as_kept q) ∙
     ap (λ (x : Bool). when is_free q then 4 else when not (is_held q) then 5 else when x then 2 else 0) (no_record_law q.«record» s))
-refusal_number (Show r) s long =
+refusal_number_law (Show r) s long =
     show_number (is_record r s.words) _ ∙ ap (λ (x : Bool). when x then 2 else 0) (no_record_law r s)
 
 -- an answer's number is the table's
@@ -158,7 +158,7 @@ pub number_is : (c : Call) (s : State) → length s.slots ≡ SLOTS → (said_to
 number_is c s long =
     let q = (all_quiet c s).quiet in
     let p = number_parts (named_slot c) (played c s).answer in
-    let r = refusal_number c s long in
+    let r = refusal_number_law c s long in
     omega arith
 
 pub refused_exactly : RefusedExactly

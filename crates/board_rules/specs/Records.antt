@@ -1,10 +1,31 @@
 -- Which numbers are records, and why a verb may not go out for a request.
-use Rattle.std.specs.Prelude.{ℕ, Bool, true, false, not, ◌&&◌, List, ltb, length}
+use Rattle.std.specs.Prelude.{ℕ, Bool, true, false, not, ◌&&◌, List, Result, Ok, Err, ltb, length}
 use Rattle.common.specs.Choice.{when◌then◌else◌}
 use Rattle.agent_request.specs.declared.Request.{Request}
 use Rattle.agent_rules.specs.declared.Verb.{Verb}
 use Rattle.agent_rules.specs.declared.Verb.TheVariants.{Nothing, Add, Read, Swap}
 use Rattle.agent_request.specs.Request.{in_use}
+use Rattle.board_rules.specs.declared.Refusal.{Refusal}
+use Rattle.board_rules.specs.declared.Refusal.TheVariants.{SlotTooHigh, NoRecord, NoMode, SlotIsFree, WrongPhase, NoSlotIsFree, NoWords}
+use Rattle.board_rules.specs.declared.Refusal.TheVariants.{NodeIsFenced, SlotIsFenced, SlotIsNotFenced}
+
+-- Rule 5.1: The number of each refusal of a call on the board.
+abbrev pub refusal_number : Refusal → ℕ
+refusal_number SlotTooHigh = 1
+refusal_number NoRecord = 2
+refusal_number NoMode = 3
+refusal_number SlotIsFree = 4
+refusal_number WrongPhase = 5
+refusal_number NoSlotIsFree = 6
+refusal_number NoWords = 9
+refusal_number NodeIsFenced = 14
+refusal_number SlotIsFenced = 15
+refusal_number SlotIsNotFenced = 16
+
+-- The number that a test gives, 0 where it lets through.
+abbrev pub number_given : {A : Type 0} → Result A Refusal → ℕ
+number_given (Ok a) = 0
+number_given (Err why) = refusal_number why
 
 -- Rules 4.2 and 5.1: At most 4,096 words are begun, and records go up to 4,095.
 abbrev pub RECORDS : ℕ

@@ -1,11 +1,40 @@
-// The rules of the board, in definitions alone: its answers, what each call makes of slots and words, and the visit of one slot.
+// The rules of the board, in definitions: its answers, what each call makes of slots and words, and the visit of one slot. The one function that is
+// written here gives the number of a refusal.
 #![tactic(auto)]
+
+ghost use Rattle.std.specs.Prelude.{◌≡◌};
+ghost use Rattle.board_rules.specs.Records.{refusal_number};
 
 use agent_request::Request;
 use board_slots::Board;
 
-// One answer for all calls on the board. Opened carries the slot, Shown the word, Told what the agent tells.
-#[derive(Clone, Copy)]
+// Why a call on the board is refused.
+#[derive(Clone, Copy, PartialEq, Eq, Debug)]
+pub enum Refusal {
+    SlotTooHigh = 1,
+    NoRecord = 2,
+    NoMode = 3,
+    SlotIsFree = 4,
+    WrongPhase = 5,
+    NoSlotIsFree = 6,
+    NoWords = 9,
+    NodeIsFenced = 14,
+    SlotIsFenced = 15,
+    SlotIsNotFenced = 16,
+}
+
+// The number that callers are told.
+impl From<Refusal> for u8 {
+    ghost from_gives = { λ why n. n ≡ refusal_number why };
+
+    fn from(why: Refusal) -> u8 {
+        why as u8
+    }
+}
+
+// One answer for all calls on the board. Opened carries the slot, Shown the word, Told what the agent tells. Refused carries the number and no
+// `Refusal`: `AnswerIsItsNumbers` and `RefusedKeeps` speak of a refusal with any number.
+#[derive(Clone, Copy, PartialEq, Eq, Debug)]
 pub enum Answer {
     Refused(u8),
     Begun,
@@ -15,8 +44,8 @@ pub enum Answer {
     Fenced,
 }
 
-// An answer in numbers: rules 5.1, 5.3 and 7.6.
-#[derive(Clone, Copy)]
+// An answer in numbers: rules 5.1, 5.3 and 7.6. Numbers, and no Result: the report of a run has these bytes.
+#[derive(Clone, Copy, PartialEq, Eq, Debug)]
 pub struct Said {
     pub number: u8,
     pub outcome: u8,
@@ -24,8 +53,16 @@ pub struct Said {
     pub value: u64,
 }
 
+// The slot that a call visits, as it was found: its number, its request, and whether the node that the call looks at is fenced.
+#[derive(Clone, Copy, PartialEq, Eq, Debug)]
+pub struct Found {
+    pub slot: usize,
+    pub request: Request,
+    pub shut: bool,
+}
+
 // What became of a visited slot's request, and the answer.
-#[derive(Clone, Copy)]
+#[derive(Clone, Copy, PartialEq, Eq, Debug)]
 pub struct Seen {
     pub request: Request,
     pub answer: Answer,

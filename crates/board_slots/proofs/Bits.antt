@@ -6,11 +6,10 @@ use mathlib.Core.Path.{◌≡◌, refl, ap, sym, ◌∙◌}
 use mathlib.Core.Bool.{Bool, true, false}
 use mathlib.Core.Logic.{◌⊎◌, inl, inr, ⊎_elim}
 use mathlib.Core.List.{List, [], ◌∷◌, ◌++◌}
-use native.Mathlib.Nat.{pow-suc, mul_assoc, lt_of_lt_of_le}
+use native.Mathlib.Nat.{pow-suc, mul_assoc, one-mul, zero-mul, lt_of_lt_of_le}
 use native.Mathlib.Omega.{arith}
 use lib.Count.{count_trailing_zeros, under, ones, ones_step, ones-ones}
-use lib.ListN.{length, get_or, set, take, drop, length-take, length-drop, drop_of_length-le}
-use lib.Seq.{drop-cons, get_or-take, get_or-drop}
+use lib.ListN.{length, get_or, set, take, length-take}
 use lib.Pow.{pow_mono}
 use Rattle.agent_request.specs.declared.Request.{Request}
 use Rattle.agent_request.specs.Request.{in_use, free_request}
@@ -138,43 +137,29 @@ bits_set (p ∷ ps) (suc i) q h =
     let r = bits_set ps i q (omega arith) in
     omega (arith, doubled (bit_of (get_or ps i free_request)) i, doubled (bit_of q) i)
 
--- 64 slots from a place on, taken from the highest down: one more slot below is one more digit
-pub more_bits :
-    (slots : List Request) (from j : ℕ) →
-    j < 64 →
-    from + 64 ≤ length slots →
-    bits_of (drop j (take 64 (drop from slots))) ≡
-    bits_of (drop (suc j) (take 64 (drop from slots))) * 2 + bit_of (get_or slots (from + j) free_request)
+-- the bits of the first slots, and of one slot more: one more digit above them
+bits_more : (l : List Request) (j : ℕ) → j < length l → bits_of (take (suc j) l) ≡ bits_of (take j l) + bit_of (get_or l j free_request) * 2 ^ j
 unfolding bits_of
-more_bits slots from j h f =
-    let whole = take 64 (drop from slots) in
-    let long : length whole ≡ 64 = simp (length-take, length-drop) (omega arith) in
-    let here : get_or whole j free_request ≡ get_or slots (from + j) free_request = get_or-take 64 (drop from slots) j free_request h ∙ get_or-drop from slots j free_request in
-    ap bits_of (drop-cons whole j free_request (omega arith)) ∙ ap (λ (q : Request). bits_of (drop (suc j) whole) * 2 + bit_of q) here
+bits_more [] j h = absurd (omega arith)
+bits_more (q ∷ qs) zero h = omega arith
+bits_more (q ∷ qs) (suc j) h =
+    let i = bits_more qs j (omega arith) in
+    omega (arith, doubled (bit_of (get_or qs j free_request)) j)
 
--- at most 63 of them leave room for one digit more
-pub bits_room : (l : List Request) (j : ℕ) → 0 < j → bits_of (drop j (take 64 l)) < 2 ^ 63
-bits_room l j h =
-    let e : length (drop j (take 64 l)) ≤ 63 = simp (length-drop, length-take) (omega arith) in
-    lt_of_lt_of_le (bits_lt (drop j (take 64 l))) (pow_mono e)
+pub more_used : (l : List Request) (j : ℕ) → j < length l → in_use (get_or l j free_request) ≡ true → bits_of (take (j + 1) l) ≡ bits_of (take j l) + 2 ^ j
+more_used l j h u =
+    let next : j + 1 ≡ suc j = omega arith in
+    let digit : bit_of (get_or l j free_request) * 2 ^ j ≡ 2 ^ j = ap (λ (b : ℕ). b * 2 ^ j) (used_bit (get_or l j free_request) u) ∙ one-mul (2 ^ j) in
+    rw next (omega (arith, bits_more l j h))
 
-pub no_bits : (l : List Request) → 64 ≤ length l → bits_of (drop 64 (take 64 l)) ≡ 0
-unfolding bits_of
-no_bits l h =
-    let short : length (take 64 l) ≤ 64 = simp length-take (omega arith) in
-    ap bits_of (drop_of_length-le (take 64 l) short)
+pub more_free : (l : List Request) (j : ℕ) → j < length l → in_use (get_or l j free_request) ≡ false → bits_of (take (j + 1) l) ≡ bits_of (take j l)
+more_free l j h u =
+    let next : j + 1 ≡ suc j = omega arith in
+    let digit : bit_of (get_or l j free_request) * 2 ^ j ≡ 0 = ap (λ (b : ℕ). b * 2 ^ j) (free_bit (get_or l j free_request) u) ∙ zero-mul (2 ^ j) in
+    rw next (omega (arith, bits_more l j h))
 
--- a turn of the loop that collects them
-pub collected :
-    (slots : List Request) (from j bits b : ℕ) →
-    0 < j →
-    j ≤ 64 →
-    from + 64 ≤ length slots →
-    bits ≡ bits_of (drop j (take 64 (drop from slots))) →
-    b ≡ bit_of (get_or slots (from + (j - 1)) free_request) →
-    bits * 2 + b ≡ bits_of (drop (j - 1) (take 64 (drop from slots)))
-collected slots from zero bits b p h f e g = absurd (omega arith)
-collected slots from (suc i) bits b p h f e g =
-    let less : suc i - 1 ≡ i = omega arith in
-    let here : b ≡ bit_of (get_or slots (from + i) free_request) = rw less at g in
-    rw (less, e, here) (sym (more_bits slots from i (omega arith) f))
+-- they are so many digits
+pub bits_take_lt : (l : List Request) (j : ℕ) → bits_of (take j l) < 2 ^ j
+bits_take_lt l j =
+    let short : length (take j l) ≤ j = simp length-take (omega arith) in
+    lt_of_lt_of_le (bits_lt (take j l)) (pow_mono short)

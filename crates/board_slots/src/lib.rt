@@ -5,6 +5,7 @@
 use agent_request::Request;
 
 // What a board keeps: its slots, for each of them its node (0 for one that was freed), and for each node whether it is fenced.
+// The nodes stand in an array beside the slots: the rules and their theorems speak of the list of slots by itself, before there are nodes.
 #[derive(Clone, Copy)]
 pub struct Board {
     pub slots: [Request; 256],
@@ -13,7 +14,7 @@ pub struct Board {
 }
 
 // A one for each slot in use.
-#[derive(Clone, Copy)]
+#[derive(Clone, Copy, PartialEq, Eq, Debug)]
 pub struct Map {
     pub parts: [u64; 4],
 }

@@ -6,7 +6,7 @@ ghost use Rattle.std.specs.Prelude.{◌≡◌};
 ghost use Rattle.board_slots.specs.Slots.{used_slots};
 ghost use Rattle.board_rules.specs.Board.{shown_of};
 
-use board_rules::Answer;
+use board_rules::{Answer, Refusal};
 use board_slots::Board;
 
 // The word of a record. It looks at no slot.
@@ -14,14 +14,10 @@ use board_slots::Board;
 pub fn show(words: &[u64], record: u64) -> Answer
     ensures { result ≡ shown_of «record» words.now }
 {
-    if 4096 <= record {
-        return Answer::Refused(2);
+    match words.get(record as usize) {
+        Some(word) if record < 4096 => Answer::Shown(*word),
+        _ => Answer::Refused(Refusal::NoRecord.into()),
     }
-    let r = record as usize;
-    if r < words.len() {
-        return Answer::Shown(words[r]);
-    }
-    Answer::Refused(2)
 }
 
 // How many slots are in use.
@@ -29,6 +25,5 @@ pub fn show(words: &[u64], record: u64) -> Answer
 pub fn used(b: Board) -> u64
     ensures { result ≡ used_slots b.slots }
 {
-    let used = board_map_read::count(board_map_kept::map_of(b));
-    used
+    board_map_read::count(board_map_kept::map_of(b))
 }

@@ -8,20 +8,20 @@ ghost use Rattle.board_rules.specs.Visit.{visit_of, show_visit};
 
 use agent_request::Request;
 use board_call::Call;
-use board_rules::{Answer, Seen};
+use board_rules::{Answer, Refusal, Seen};
 
 #[tactic(auto, using(board_rules::proofs::Sent::record_small, board_rules::proofs::Sent::record_lent), unfolding(board_rules::specs::Visit::show_visit, board_rules::specs::Board::shown_of))]
 fn show_visit(record: u64, q: Request, words: &[u64]) -> Seen
     ensures { result ≡ handed (show_visit «record» q words.now) }
 {
     if board_records::is_record(record, words.len()) {
-        let r = record as usize;
-        return Seen {
+        Seen {
             request: q,
-            answer: Answer::Shown(words[r]),
-        };
+            answer: Answer::Shown(words[record as usize]),
+        }
+    } else {
+        board_records::refused(q, Refusal::NoRecord.into())
     }
-    board_records::refused(q, 2)
 }
 
 // The visit of slot i, whose request is q: what becomes of the request, of the words, and the answer.
@@ -32,18 +32,11 @@ pub fn visit(c: Call, i: usize, q: Request, words: &mut [u64]) -> Seen
 {
     match c {
         Call::Open(record, mode) => board_visit_open::open_visit(record, mode, i, q, words),
-        Call::Step(n) => {
-            if 256 <= n {
-                return board_records::refused(q, 1);
-            }
-            board_visit_verb::step_visit(q, words)
+        Call::Step(n) | Call::Release(n) if 256 <= n => {
+            board_records::refused(q, Refusal::SlotTooHigh.into())
         }
-        Call::Release(n) => {
-            if 256 <= n {
-                return board_records::refused(q, 1);
-            }
-            board_visit_verb::release_visit(q, words)
-        }
+        Call::Step(_) => board_visit_verb::step_visit(q, words),
+        Call::Release(_) => board_visit_verb::release_visit(q, words),
         Call::Show(record) => show_visit(record, q, words),
     }
 }

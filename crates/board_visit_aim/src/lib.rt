@@ -11,21 +11,17 @@ use board_slots::Map;
 fn within(i: u64) -> usize
     ensures { result ≡ within_board i }
 {
-    if 256 <= i {
-        return 0;
-    }
-    i as usize
+    if i < 256 { i as usize } else { 0 }
 }
 
-// The slot that a call visits.
-#[tactic(auto, unfolding(board_rules::specs::Visit::aim_of))]
+// The slot that a call visits. A slot and no Option: where none is named or free it is slot 0, and its visit refuses (docs/DECISIONS.md, 18).
+#[tactic(auto, using(crate::proofs::Aims::lowest_aimed), unfolding(board_rules::specs::Visit::aim_of))]
 pub fn aim(c: Call, m: Map) -> usize
     ensures { result ≡ aim_of c m.parts }
 {
     match c {
-        Call::Open(_, _) => within(board_map_read::lowest(m)),
-        Call::Step(i) => within(i),
-        Call::Release(i) => within(i),
+        Call::Open(_, _) => board_map_read::lowest(m).unwrap_or(0),
+        Call::Step(slot) | Call::Release(slot) => within(slot),
         Call::Show(_) => 0,
     }
 }

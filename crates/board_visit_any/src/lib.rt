@@ -8,55 +8,52 @@ ghost use Rattle.board_call.specs.declared.AnyCall.TheVariants.{Base};
 ghost use Rattle.board_rules.specs.Sent.{handed};
 ghost use Rattle.board_nodes.specs.Visit.{behind_gate, any_visit};
 
-use agent_request::Request;
 use board_call::AnyCall;
-use board_rules::{Answer, Seen};
+use board_rules::{Answer, Found, Refusal, Seen};
 
 // The visit behind the gate.
 #[tactic(auto, using(board_rules::proofs::Words::open_words), unfolding(board_rules::specs::Visit::named_visit))]
-fn behind_gate(o: AnyCall, i: usize, q: Request, words: &mut [u64]) -> Seen
-    ensures said { result ≡ handed (behind_gate o i q words.old) }
-    ensures left { words.new ≡ (behind_gate o i q words.old).words }
+fn behind_gate(o: AnyCall, found: Found, words: &mut [u64]) -> Seen
+    ensures said { result ≡ handed (behind_gate o found.slot found.request words.old) }
+    ensures left { words.new ≡ (behind_gate o found.slot found.request words.old).words }
 {
+    let Found { slot, request, .. } = found;
     match o {
-        AnyCall::Base(c) => board_visit::visit(c, i, q, words),
+        AnyCall::Base(c) => board_visit::visit(c, slot, request, words),
         AnyCall::OpenAs(record, mode, _) => {
-            board_visit_open::open_visit(record, mode, i, q, words)
+            board_visit_open::open_visit(record, mode, slot, request, words)
         }
         AnyCall::Fence(_) => Seen {
-            request: q,
+            request,
             answer: Answer::Fenced,
         },
-        AnyCall::Care(n) => {
-            if 256 <= n {
-                return board_records::refused(q, 1);
-            }
-            board_visit_care::care_visit(q, words)
+        AnyCall::Care(n) if 256 <= n => {
+            board_records::refused(request, Refusal::SlotTooHigh.into())
         }
+        AnyCall::Care(_) => board_visit_care::care_visit(request, words),
     }
 }
 
-// The visit of slot i, whose request is q, by any call; `shut` says whether the node that it looks at is fenced.
-#[tactic(auto, unfolding(board_nodes::specs::Visit::any_visit))]
-pub fn any_visit(o: AnyCall, i: usize, shut: bool, q: Request, words: &mut [u64]) -> Seen
-    ensures said { result ≡ handed (any_visit o i shut q words.old) }
-    ensures left { words.new ≡ (any_visit o i shut q words.old).words }
+// The visit of a slot by any call.
+#[tactic(auto, using(board_rules::proofs::Given::never_0), unfolding(board_nodes::specs::Visit::any_visit))]
+pub fn any_visit(o: AnyCall, found: Found, words: &mut [u64]) -> Seen
+    ensures said { result ≡ handed (any_visit o found.slot found.shut found.request words.old) }
+    ensures left { words.new ≡ (any_visit o found.slot found.shut found.request words.old).words }
 {
-    let number = board_gate::gate(o, shut, q, words);
-    if number != 0 {
-        return board_records::refused(q, number);
+    match board_gate::gate(o, found.shut, found.request, words) {
+        Ok(()) => behind_gate(o, found, words),
+        Err(why) => board_records::refused(found.request, why.into()),
     }
-    behind_gate(o, i, q, words)
 }
 
-// The same of an open by any node, which leaves the words; it stands apart because there is less to do.
-#[tactic(auto, unfolding(board_nodes::specs::Visit::any_visit))]
-pub fn any_open(record: u64, mode: u64, i: usize, shut: bool, q: Request, words: &[u64]) -> Seen
-    ensures { result ≡ handed (any_visit (Base (Open «record» mode)) i shut q words.now) }
+// The same of an open by any node, which leaves the words. Tried: with `any_visit` for opens too a run's open takes half as many instructions again
+// (docs/PERFORMANCE.md).
+#[tactic(auto, using(board_rules::proofs::Given::never_0), unfolding(board_nodes::specs::Visit::any_visit))]
+pub fn any_open(record: u64, mode: u64, found: Found, words: &[u64]) -> Seen
+    ensures { result ≡ handed (any_visit (Base (Open «record» mode)) found.slot found.shut found.request words.now) }
 {
-    let number = board_gate::open_gate(record, mode, shut, words);
-    if number != 0 {
-        return board_records::refused(q, number);
+    match board_gate::open_gate(record, mode, found.shut, words) {
+        Ok(()) => board_visit_open::open_visit(record, mode, found.slot, found.request, words),
+        Err(why) => board_records::refused(found.request, why.into()),
     }
-    board_visit_open::open_visit(record, mode, i, q, words)
 }

@@ -7,7 +7,7 @@ ghost use Rattle.board_rules.specs.Sent.{handed};
 ghost use Rattle.board_nodes.specs.Visit.{care_visit, unasked_visit};
 
 use agent_request::{Phase, Request};
-use board_rules::{Answer, Seen};
+use board_rules::{Answer, Refusal, Seen};
 
 // A request that asks is freed, if its record is lent; the words are only counted.
 #[tactic(auto, unfolding(board_nodes::specs::Visit::unasked_visit))]
@@ -15,12 +15,13 @@ fn unasked_visit(q: Request, words: &[u64]) -> Seen
     ensures { result ≡ handed (unasked_visit q words.now) }
 {
     if board_records::is_record(q.record as u64, words.len()) {
-        return Seen {
+        Seen {
             request: agent_request::free(),
             answer: Answer::Told(agent_rules::Answer::FreedUnasked),
-        };
+        }
+    } else {
+        board_records::refused(q, Refusal::NoRecord.into())
     }
-    board_records::refused(q, 2)
 }
 
 // The visit of a slot, whose request is q, by a care: what becomes of the request and of the words, and the answer.
@@ -29,13 +30,10 @@ pub fn care_visit(q: Request, words: &mut [u64]) -> Seen
     ensures said { result ≡ handed (care_visit q words.old) }
     ensures left { words.new ≡ (care_visit q words.old).words }
 {
-    let phase = agent_request::phase_of(q.phase);
-    match phase {
-        Phase::Free => board_records::refused(q, 4),
+    match Phase::from(q.phase) {
+        Phase::Free => board_records::refused(q, Refusal::SlotIsFree.into()),
         Phase::Asking => unasked_visit(q, words),
-        Phase::Waiting => board_visit_verb::step_visit(q, words),
         Phase::Held => board_visit_verb::release_visit(q, words),
-        Phase::Owing => board_visit_verb::step_visit(q, words),
-        Phase::Clearing => board_visit_verb::step_visit(q, words),
+        Phase::Waiting | Phase::Owing | Phase::Clearing => board_visit_verb::step_visit(q, words),
     }
 }

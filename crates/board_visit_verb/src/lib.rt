@@ -2,26 +2,15 @@
 // here. It relies on the contracts of `word_verbs`, `agent_sends`, `agent_takes`, `agent_request` and `board_records` alone.
 #![tactic(auto)]
 
-ghost use Rattle.std.specs.Prelude.{◌≡◌, [], get_or, set};
+ghost use Rattle.std.specs.Prelude.{◌≡◌, ℕ, get_or, set, OnOk, OnErr, IfOk};
 ghost use Rattle.agent_rules.specs.Life.{left_by, step_sends, release_sends, step_takes, release_takes};
-ghost use Rattle.board_rules.specs.declared.Answer.TheVariants.{Told};
-ghost use Rattle.board_rules.specs.Records.{is_nothing, refusal_of};
-ghost use Rattle.board_rules.specs.Sent.{seen_as, handed, sent_visit};
+ghost use Rattle.agent_rules.specs.declared.Taken.{Taken};
+ghost use Rattle.board_rules.specs.Records.{number_given, refusal_of};
+ghost use Rattle.board_rules.specs.Sent.{handed, sent_visit};
 
 use agent_request::Request;
-use agent_rules::Verb;
-use board_rules::{Answer, Seen};
-
-fn is_nothing(v: Verb) -> bool
-    ensures { result ≡ is_nothing v }
-{
-    match v {
-        Verb::Nothing => true,
-        Verb::Add(_) => false,
-        Verb::Read => false,
-        Verb::Swap(_, _) => false,
-    }
-}
+use agent_rules::{Taken, Verb};
+use board_rules::{Answer, Refusal, Seen};
 
 // Sends a verb to a word; the word as it was comes back. Nothing leaves the word alone.
 fn send(word: &mut u64, v: Verb) -> u64
@@ -36,81 +25,77 @@ fn send(word: &mut u64, v: Verb) -> u64
     }
 }
 
-// Why a verb may not go out for a request, or 0.
+// Whether a verb may go out for a request.
 #[tactic(auto, unfolding(board_rules::specs::Records::refusal_of))]
-fn refusal(q: Request, v: Verb, words: &[u64]) -> u8
-    ensures { result ≡ refusal_of q v words.now }
+fn may_go_out(q: Request, v: Verb, words: &[u64]) -> Result<(), Refusal>
+    ensures { number_given result ≡ refusal_of q v words.now }
 {
     if !agent_request::in_use(q) {
-        return 4;
+        return Err(Refusal::SlotIsFree);
     }
-    if is_nothing(v) {
-        return 5;
+    if v == Verb::Nothing {
+        return Err(Refusal::WrongPhase);
     }
-    if board_records::is_record(q.record as u64, words.len()) {
-        return 0;
+    if !board_records::is_record(q.record as u64, words.len()) {
+        return Err(Refusal::NoRecord);
     }
-    2
+    Ok(())
 }
 
-// What became of a verb: why it did not go out, or 0 and what came back.
-#[derive(Clone, Copy)]
-struct Went {
-    number: u8,
-    value: u64,
-}
-
-// Sends a verb to the request's word, if it may go out.
+// Sends a verb to the request's word, if it may go out; the word as it was comes back.
 #[tactic(auto, using(board_rules::proofs::Sent::inside))]
-fn go_out(q: Request, v: Verb, words: &mut [u64]) -> Went
-    ensures number { result.number ≡ refusal_of q v words.old }
-    ensures kept { (result.number ≡ 0 → ⊥) → words.new ≡ words.old }
-    ensures value { result.number ≡ 0 → result.value ≡ get_or words.old q.«record» 0 }
-    ensures left { result.number ≡ 0 →
-        words.new ≡ set words.old q.«record» (left_by v (get_or words.old q.«record» 0)) }
+fn go_out(q: Request, v: Verb, words: &mut [u64]) -> Result<u64, Refusal>
+    ensures number { number_given result ≡ refusal_of q v words.old }
+    ensures kept { OnErr result (words.new ≡ words.old) }
+    ensures value { IfOk result (λ value. value ≡ get_or words.old q.«record» 0) }
+    ensures left { OnOk result (words.new ≡ set words.old q.«record» (left_by v (get_or words.old q.«record» 0))) }
 {
-    let number = refusal(q, v, words);
-    if number != 0 {
-        return Went { number, value: 0 };
-    }
-    let r = q.record as usize;
-    let value = send(&mut words[r], v);
-    Went { number: 0, value }
+    may_go_out(q, v, words)?;
+    Ok(send(&mut words[q.record as usize], v))
 }
 
-fn told(t: agent_rules::Taken) -> Seen
-    ensures { result ≡ seen_as t.request (Told t.answer) }
+// A verb sent for a request, and its result taken by `take`, which computes `takes`.
+#[tactic(auto, using(board_rules::proofs::Given::never_0), unfolding(board_rules::specs::Sent::sent_visit))]
+fn sent_visit<T: FnOnce(u64) -> Taken>(q: Request, v: Verb, take: T, words: &mut [u64]) -> Seen
+    requires { T.IsAlwaysCallable take }
+    ensures said { (takes : ℕ → Taken) → ((value : ℕ) (t : Taken) → T.post take value t → t ≡ takes value) →
+        result ≡ handed (sent_visit q v takes words.old) }
+    ensures left { (takes : ℕ → Taken) → words.new ≡ (sent_visit q v takes words.old).words }
 {
-    let request = t.request;
-    let answer = t.answer;
-    Seen {
-        request,
-        answer: Answer::Told(answer),
+    match go_out(q, v, words) {
+        Ok(value) => {
+            let Taken { request, answer } = take(value);
+            Seen {
+                request,
+                answer: Answer::Told(answer),
+            }
+        }
+        Err(why) => board_records::refused(q, why.into()),
     }
 }
 
 // A step: the verb of its phase goes out, and what came back is taken.
-#[tactic(auto, using(board_rules::proofs::Sent::refused_out, board_rules::proofs::Sent::accepted_out))]
 pub fn step_visit(q: Request, words: &mut [u64]) -> Seen
     ensures said { result ≡ handed (sent_visit q (step_sends q) (step_takes q) words.old) }
     ensures left { words.new ≡ (sent_visit q (step_sends q) (step_takes q) words.old).words }
 {
-    let w = go_out(q, agent_sends::step_sends(q), words);
-    if w.number != 0 {
-        return board_records::refused(q, w.number);
-    }
-    told(agent_takes::step_takes(q, w.value))
+    sent_visit(
+        q,
+        agent_sends::step_sends(q),
+        |value| agent_takes::step_takes(q, value),
+        words,
+    )
 }
 
 // A release, in the same way.
-#[tactic(auto, using(board_rules::proofs::Sent::refused_out, board_rules::proofs::Sent::accepted_out))]
 pub fn release_visit(q: Request, words: &mut [u64]) -> Seen
     ensures said { result ≡ handed (sent_visit q (release_sends q) (release_takes q) words.old) }
     ensures left { words.new ≡ (sent_visit q (release_sends q) (release_takes q) words.old).words }
 {
-    let w = go_out(q, agent_sends::release_sends(q), words);
-    if w.number != 0 {
-        return board_records::refused(q, w.number);
-    }
-    told(agent_takes::release_takes(q, w.value))
+    sent_visit(
+        q,
+        agent_sends::release_sends(q),
+        |value| agent_takes::release_takes(q, value),
+        words,
+    )
 }

@@ -1,17 +1,23 @@
 -- A step of a request that goes on waiting leaves the request and the words, and tells how many are ahead.
 -- Assumes nothing.
-use Prim.Native.Nat.{ℕ, ◌<◌}
+use Prim.Native.Nat.{ℕ, ◌+◌, ◌-◌, ◌<◌, ◌≤◌}
 use mathlib.Core.Path.{◌≡◌, refl, ap, sym, ◌∙◌}
-use mathlib.Core.Bool.{Bool, true, false, not, ◌&&◌}
+use mathlib.Core.Bool.{Bool, true, false, not, ◌&&◌, ◌||◌}
 use mathlib.Core.List.{List}
 use native.Mathlib.Omega.{arith}
-use borrow.Author.Tests.{eqb-true, lt-leb}
+use borrow.Author.Tests.{eqb-true, eqb-false, ltb-false, leb-false, lt-leb}
+use Rattle.std.specs.declared.option.Option.TheVariants.{Some}
 use lib.Dec.{eqb, ltb, leb}
 use lib.ListN.{get_or, set}
 use lib.Seq.{set-get_or}
-use Rattle.common.specs.Choice.{when◌then◌else◌}
+use Rattle.common.specs.Choice.{when◌then◌else◌, but}
+use Rattle.common.proofs.But.{some_but}
 use Rattle.word_layout.specs.Word.{split_of}
+use Rattle.word_layout.specs.declared.Counters.{Counters}
 use Rattle.agent_ticket.specs.Turn.{turn_of}
+use Rattle.agent_ticket.specs.declared.Mode.TheVariants.{Reader, Writer}
+use Rattle.agent_ticket.specs.declared.Mode.{Mode}
+use Rattle.agent_ticket.specs.declared.Ticket.{Ticket}
 use Rattle.agent_ticket.specs.declared.Turn.{Turn}
 use Rattle.agent_ticket.specs.declared.Turn.TheVariants as turn
 use Rattle.agent_request.specs.Request.{phase_of, mode_of, free_request, in_phase, in_use}
@@ -136,3 +142,62 @@ pub waits_visit : WaitingIsTheVisit
 waits_visit o m slots shut ws k n e small h ne =
     let v = still_visit shut (get_or slots k free_request) ws n h ne in
     rw (is_its_step o k e small, aims_there k m small, v.0) (step_visit k (get_or slots k free_request) ws small ∙ v.1)
+
+-- whoever is told to wait has someone ahead
+pub some_ahead : (m : Mode) (t : Ticket) (v : Counters) (n : ℕ) → turn_of m t v ≡ turn.Ahead n → n ≡ 0 → ⊥
+unfolding turn_of
+some_ahead Reader t v n e z = by (ltb t.0.0 v.nx.0) (eqb v.nx.0 t.0.0) refl refl e
+  where
+    by :
+        (x y : Bool) →
+        ltb t.0.0 v.nx.0 ≡ x →
+        eqb v.nx.0 t.0.0 ≡ y →
+        (when x || false then turn.Passed else when y && true then turn.Granted else turn.Ahead (t.0.0 - v.nx.0)) ≡ turn.Ahead n →
+        ⊥
+    by true y a b e = cc
+    by false true a b e = cc
+    by false false a b e =
+        let k : t.0.0 - v.nx.0 ≡ n = cc in
+        let le = ltb-false t.0.0 v.nx.0 a in
+        let ne = eqb-false v.nx.0 t.0.0 b in
+        ne (omega arith)
+some_ahead Writer t v n e z = by (ltb t.0.0 v.nx.0) (ltb t.1.0 v.ns.0) (eqb v.nx.0 t.0.0) (eqb v.ns.0 t.1.0) refl refl refl refl e
+  where
+    by :
+        (x w y u : Bool) →
+        ltb t.0.0 v.nx.0 ≡ x →
+        ltb t.1.0 v.ns.0 ≡ w →
+        eqb v.nx.0 t.0.0 ≡ y →
+        eqb v.ns.0 t.1.0 ≡ u →
+        (when x || w then turn.Passed else when y && u then turn.Granted else turn.Ahead ((t.0.0 - v.nx.0) + (t.1.0 - v.ns.0))) ≡ turn.Ahead n →
+        ⊥
+    by true w y u a d b f e = cc
+    by false true y u a d b f e = cc
+    by false false true true a d b f e = cc
+    by false false false u a d b f e =
+        let k : (t.0.0 - v.nx.0) + (t.1.0 - v.ns.0) ≡ n = cc in
+        let le = ltb-false t.0.0 v.nx.0 a in
+        let ne = eqb-false v.nx.0 t.0.0 b in
+        ne (omega arith)
+    by false false true false a d b f e =
+        let k : (t.0.0 - v.nx.0) + (t.1.0 - v.ns.0) ≡ n = cc in
+        let le = ltb-false t.1.0 v.ns.0 d in
+        let ne = eqb-false v.ns.0 t.1.0 f in
+        ne (omega arith)
+
+stepped_le : (o : AnyCall) → stepped_slot o ≤ SLOTS
+stepped_le (Base (Open r j)) = omega arith
+stepped_le (Base (Step j)) = by (leb SLOTS j) refl
+  where
+    by : (x : Bool) → leb SLOTS j ≡ x → (when x then SLOTS else j) ≤ SLOTS
+    by true e = omega arith
+    by false e = omega (arith, leb-false SLOTS j e)
+stepped_le (Base (Release j)) = omega arith
+stepped_le (Base (Show r)) = omega arith
+stepped_le (OpenAs r m j) = omega arith
+stepped_le (Fence j) = omega arith
+stepped_le (Care j) = omega arith
+
+-- a slot that is stepped is one of the board
+pub stepped_is : (o : AnyCall) (k : ℕ) → Some k ≡ but SLOTS (stepped_slot o) → (k ≡ stepped_slot o) × (k < SLOTS)
+stepped_is o k e = let s = some_but SLOTS (stepped_slot o) k e in let l = stepped_le o in (s.1, omega arith)

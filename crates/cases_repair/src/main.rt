@@ -1,5 +1,7 @@
 // Plays and repairs with each file that its arguments name, as the repair program would, after a line with the file's name. A file that cannot be opened is named on
 // standard error, and the next one follows.
+// `cases_schedules` differs in the job alone: a function for both would be public, and hand back what a file
+// gives, which no contract determines; that would be a new exception in docs/CONTRACTS.md.
 #![tactic(auto)]
 
 use std::io::Read;

@@ -1,3 +1,4 @@
 pub mod OnlyOne
 pub mod Choices
 pub mod Tables
+pub mod But

@@ -11,6 +11,7 @@ use native.Mathlib.Omega.{arith}
 use borrow.Author.Tests.{eqb-false, ltb-false}
 use lib.Dec.{eqb, ltb}
 use lib.ListN.{length, length-set, length-replicate}
+use Rattle.std.proofs.lemmas.Bool.{cases_Bool}
 use Rattle.common.specs.Choice.{when◌then◌else◌}
 use Rattle.common.proofs.Choices.{either_by}
 use Rattle.agent_rules.specs.Answers.{numbers_of}
@@ -30,7 +31,7 @@ use Rattle.board_nodes.specs.Site.{opened_by, stepped_at, released_at, cared_at,
 use Rattle.history_promises.specs.Ledger.{Stage, Ledger, blank, free, waits_for, noted_call, seated}
 use Rattle.history_promises.specs.Ledger.Stage.{Nobody, Asks, Waits, Holds, Owes, Clears}
 use Rattle.history_promises.specs.Promises.{StepTells, ReleaseTells, CareTells, Demand}
-use Rattle.history_promises.proofs.Counts.{clash, true_or_false}
+use Rattle.history_promises.proofs.Counts.{clash}
 use Rattle.history_promises.proofs.Tied.{Tied}
 use Rattle.history_promises.proofs.Moves.{put_same}
 use Rattle.history_promises.proofs.Kept.{tied}
@@ -91,19 +92,19 @@ module _ {n : ℕ} {L : Ledger} (t : Site) (says : AnyCall → Answer) (D : Dema
   step_way : (i : ℕ) → (says (Base (Step i)) ≡ Refused 15) ⊎ (says (Base (Step i)) ≡ plain t (Step i))
   step_way i =
       ⊎_elim (λ e. inr (G.free_slot i e).0.0)
-      (λ d. ⊎_elim (λ s. inl (G.fenced_slot i d s).0) (λ s. inr (G.living_slot i d s).0.0) (true_or_false (shut_at t i)))
+      (λ d. ⊎_elim (λ s. inl (G.fenced_slot i d s).0) (λ s. inr (G.living_slot i d s).0.0) (cases_Bool (shut_at t i)))
       (nobody_or_not (L.seats i).stage)
 
   release_way : (i : ℕ) → (says (Base (Release i)) ≡ Refused 15) ⊎ (says (Base (Release i)) ≡ plain t (Release i))
   release_way i =
       ⊎_elim (λ e. inr (G.free_slot i e).0.1)
-      (λ d. ⊎_elim (λ s. inl (G.fenced_slot i d s).1) (λ s. inr (G.living_slot i d s).0.1) (true_or_false (shut_at t i)))
+      (λ d. ⊎_elim (λ s. inl (G.fenced_slot i d s).1) (λ s. inr (G.living_slot i d s).0.1) (cases_Bool (shut_at t i)))
       (nobody_or_not (L.seats i).stage)
 
   care_way : (i : ℕ) → ((x : ℕ) × (says (Care i) ≡ Refused x)) ⊎ CareTells (L.seats i).stage (says (Care i)) (plain t (Step i)) (plain t (Release i))
   care_way i =
       ⊎_elim (λ e. inl (⊎_elim (λ q. (1, q)) (λ q. (4, q)) (G.free_slot i e).1))
-      (λ d. ⊎_elim (λ s. inr (G.fenced_slot i d s).2) (λ s. inl (16, (G.living_slot i d s).1)) (true_or_false (shut_at t i)))
+      (λ d. ⊎_elim (λ s. inr (G.fenced_slot i d s).2) (λ s. inl (16, (G.living_slot i d s).1)) (cases_Bool (shut_at t i)))
       (nobody_or_not (L.seats i).stage)
 
   -- one that is not refused
@@ -149,7 +150,7 @@ module _ {n : ℕ} {L : Ledger} (t : Site) (says : AnyCall → Answer) (D : Dema
         ⊎_elim
         (λ e. ap (is_told f) (G.fenced_node r m k e).0.1)
         (λ e. ap (is_told f) (G.living_node r m k e) ∙ open_not r m)
-        (true_or_false (fenced_at t k))
+        (cases_Bool (fenced_at t k))
 
     turn : (o : AnyCall) → is_told f (says o) ≡ true → Turned L t says o
     turn (Base (Open r m)) h = gone f _ _ h (G.plain_open r m) (open_by_not r m 0)

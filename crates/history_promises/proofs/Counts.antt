@@ -3,19 +3,15 @@
 use Prim.Native.Nat.{ℕ, zero, suc, ◌+◌, ◌<◌, ◌≤◌}
 use mathlib.Core.Path.{◌≡◌, refl, ap, sym, ◌∙◌}
 use mathlib.Core.Bool.{Bool, true, false}
-use mathlib.Core.Logic.{◌⊎◌, inl, inr, ⊎_elim}
+use mathlib.Core.Logic.{⊎_elim}
 use mathlib.Core.List.{List, [], ◌∷◌, ◌++◌}
 use native.Mathlib.Nat.{eq-or-lt_of_le}
 use native.Mathlib.Omega.{arith}
 use lib.ListN.{length, get_or, set, take}
+use Rattle.std.proofs.lemmas.Bool.{cases_Bool}
 use Rattle.common.specs.Choice.{when◌then◌else◌}
 use Rattle.history_promises.specs.Tickets.{counted}
 use Rattle.history_promises.specs.Ledger.{one, below}
-
--- a test passes or fails
-pub true_or_false : (x : Bool) → (x ≡ true) ⊎ (x ≡ false)
-true_or_false true = inl refl
-true_or_false false = inr refl
 
 pub one_le : (x : Bool) → one x ≤ 1
 one_le true = omega arith
@@ -54,10 +50,6 @@ module _ {A : Type 0} (f : A → Bool) where
       let i = counted_set l p a d (omega arith) in
       omega (arith, counted_cons b l, counted_cons b (set l p a))
 
-  pub counted_le : (l : List A) → counted f l ≤ length l
-  counted_le [] = omega (arith, counted_nil)
-  counted_le (a ∷ l) = let i = counted_le l in let b = one_le (f a) in omega (arith, counted_cons a l)
-
   -- no more pass before a place than in all
   pub counted_take : (l : List A) (p : ℕ) → counted f (take p l) ≤ counted f l
   counted_take [] zero = omega arith
@@ -69,7 +61,7 @@ module _ {A : Type 0} (f : A → Bool) where
   pub none_each : (l : List A) (p : ℕ) (d : A) → counted f (take p l) ≡ 0 → (j : ℕ) → j < p → j < length l → f (get_or l j d) ≡ false
   none_each [] p d h j k m = absurd (omega arith)
   none_each (a ∷ l) zero d h j k m = absurd (omega arith)
-  none_each (a ∷ l) (suc p) d h zero k m = ⊎_elim (λ e. absurd (omega (arith, counted_cons a (take p l), ap one e))) (λ e. e) (true_or_false (f a))
+  none_each (a ∷ l) (suc p) d h zero k m = ⊎_elim (λ e. absurd (omega (arith, counted_cons a (take p l), ap one e))) (λ e. e) (cases_Bool (f a))
   none_each (a ∷ l) (suc p) d h (suc j) k m =
       let less : counted f (take p l) ≡ 0 = omega (arith, counted_cons a (take p l)) in
       none_each l p d less j (omega arith) (omega arith)
@@ -131,7 +123,7 @@ below_put f g (suc n) i h e =
 
 -- none passes exactly when each fails
 pub below_none : (f : ℕ → Bool) (n : ℕ) → below f n ≡ 0 → (i : ℕ) → i < n → f i ≡ false
-below_none f n h i k = ⊎_elim (λ e. absurd (pass_some f n i k e h)) (λ e. e) (true_or_false (f i))
+below_none f n h i k = ⊎_elim (λ e. absurd (pass_some f n i k e h)) (λ e. e) (cases_Bool (f i))
 
 pub none_below : (f : ℕ → Bool) (n : ℕ) → ((i : ℕ) → i < n → f i ≡ false) → below f n ≡ 0
 unfolding below

@@ -12,6 +12,7 @@ use borrow.Author.Tests.{leb-true, leb-false, ltb-true, ltb-false, eqb-true, eq-
 use lib.Dec.{eqb, leb, ltb}
 use lib.ListN.{length, take}
 use lib.Seq.{take-append_seam, take-length}
+use Rattle.std.proofs.lemmas.Bool.{cases_Bool}
 use Rattle.common.specs.Choice.{when◌then◌else◌}
 use Rattle.common.proofs.Choices.{either_by, same_or_not}
 use Rattle.agent_ticket.specs.declared.Mode.{Mode}
@@ -35,7 +36,7 @@ use Rattle.history_promises.specs.Promises.{OpenTells, OpensWhereNobodySits, Wri
 use Rattle.history_promises.specs.Promises.{CareCounts, care_makes, CareIsWhatItMakes, AskingLeavesNoTrace}
 use Rattle.history_promises.specs.History.{fresh, made, noted, after, events, read_off, ledger_after, board_after}
 use Rattle.history_promises.specs.History.Move.{Care}
-use Rattle.history_promises.proofs.Counts.{clash, true_or_false, below_none, none_below}
+use Rattle.history_promises.proofs.Counts.{clash, below_none, none_below}
 use Rattle.history_promises.proofs.Turns.{ahead_now, few_ahead, ahead_earlier, earlier_ahead}
 use Rattle.history_promises.proofs.Words.{topped, topped_or, or_topped, clearing_for, word_at_rest, at_rest, rests, word_counted, counters_small}
 use Rattle.history_promises.proofs.Tied.{is_nobody, Facts, Tied, keeps_at, few_owed}
@@ -93,7 +94,7 @@ module _ {n : ℕ} {s : State} {L : Ledger} (T : Tied n s L) where
       clash (ticket_at (mine L i) (L.seats j).place).released
       (x.1 (L.seats j).place (less (L.seats i).place (L.seats j).place (ltb-false _ _ h) d) (rw w (conflicts_writer (ticket_at (mine L i) (L.seats j).place).kind))) y.0.open_now)
       (same_or_not (L.seats i).place (L.seats j).place))
-      (true_or_false (ltb (L.seats i).place (L.seats j).place))
+      (cases_Bool (ltb (L.seats i).place (L.seats j).place))
     where
       less : (p q : ℕ) → q ≤ p → (p ≡ q → ⊥) → q < p
       less p q h d = ⊎_elim (λ e. absurd (d (sym e))) (λ l. l) (eq-or-lt_of_le h)
@@ -145,7 +146,7 @@ module _ {n : ℕ} {s : State} {L : Ledger} (T : Tied n s L) where
       not_full false q q' w w' m h = let z : ◌≡◌ {A = ℕ} 0 1 = cc in absurd (omega arith)
 
   drawn_granted : DrawnIsGrantedExactly L (λ c. (played c s).answer)
-  drawn_granted i e not_full = ⊎_elim (λ top. absurd (not_full (asks_full i e top))) exactly (true_or_false (topped (mine L i)))
+  drawn_granted i e not_full = ⊎_elim (λ top. absurd (not_full (asks_full i e top))) exactly (cases_Bool (topped (mine L i)))
     where
       exactly : topped (mine L i) ≡ false → ((played (Step i) s).answer ≡ Told tells.Granted) ↔ EarlierReleased (mine L i) (L.seats i).kind (length (mine L i))
       exactly low =
@@ -158,7 +159,7 @@ module _ {n : ℕ} {s : State} {L : Ledger} (T : Tied n s L) where
   full i e =
       let lent = lent_to_law T i Asks e refl in
       let a = T.agrees (L.seats i).about lent in (
-        (λ h. ⊎_elim (λ top. ⊎_elim (λ w. inl (omega (arith, a.cap Writer))) (λ r. inr (omega (arith, a.cap Reader))) (topped_or (mine L i) top)) (λ low. absurd ((asks_turn i e low).0 h)) (true_or_false (topped (mine L i)))),
+        (λ h. ⊎_elim (λ top. ⊎_elim (λ w. inl (omega (arith, a.cap Writer))) (λ r. inr (omega (arith, a.cap Reader))) (topped_or (mine L i) top)) (λ low. absurd ((asks_turn i e low).0 h)) (cases_Bool (topped (mine L i)))),
         (λ h. asks_full i e (⊎_elim (λ w. or_topped (mine L i) Writer (omega arith)) (λ r. or_topped (mine L i) Reader (omega arith)) h)),
       )
 
@@ -188,7 +189,7 @@ module _ {n : ℕ} {s : State} {L : Ledger} (T : Tied n s L) where
         ⊎_elim
         (λ top. subst Not (sym (step_asks_full s i here (L.seats i) (mine L i) inside few a (keeps_at T i here Asks e) top)) full-told)
         (λ low. subst Not (sym (step_asks_turn s i here (L.seats i) (mine L i) inside few a low (keeps_at T i here Asks e))) (either_by Not (eqb (ahead_now (L.seats i).kind (longer i) (length (mine L i))) 0) (λ z. granted) (λ z. waiting _)))
-        (true_or_false (topped (mine L i)))
+        (cases_Bool (topped (mine L i)))
     step_not i here Clears e c = c refl
 
     step_never : (i : ℕ) → ((h : i < SLOTS) → (L.seats i).stage ≡ Clears → Not (stepped i s)) → Not (stepped i s)
@@ -394,7 +395,7 @@ module _ {n : ℕ} {s : State} {L : Ledger} (T : Tied n s L) where
           (⊎_elim
           (λ top. not_this _ (sym told ∙ asks_full i e top) refl)
           (λ low. let q = asked e low in (q ∙ sym drawn_waits, omega (arith, few Asks e refl (length (mine L i)), asks_same i)))
-          (true_or_false (topped (mine L i))))
+          (cases_Bool (topped (mine L i))))
       by Waits e =
           let q = waited e in
           subst P (sym e) (q ∙ sym (seat_waits L i (staged Waits (L.seats i))), omega (arith, few Waits e refl (L.seats i).place))

@@ -11,6 +11,7 @@ use borrow.Author.Tests.{leb-false, ltb-true, ltb-false, le-ltb, eqb-true, eqb-f
 use lib.Dec.{eqb, leb, ltb}
 use lib.ListN.{length, set, length-set, length-replicate, get_or-replicate}
 use lib.Seq.{get_or-set_same, get_or-set_other, set-get_or}
+use Rattle.std.proofs.lemmas.Bool.{cases_Bool}
 use Rattle.common.proofs.Choices.{either_by}
 use Rattle.word_layout.specs.Word.{step_of, add_of}
 use Rattle.agent_ticket.specs.declared.Mode.{Mode}
@@ -31,7 +32,7 @@ use Rattle.history_promises.specs.Ledger.Stage.{Nobody, Asks, Waits, Holds, Owes
 use Rattle.history_promises.specs.History.{Move, fresh, made, after, events, noted, read_off, ledger_after, board_after}
 use Rattle.history_promises.specs.History.Move.{Begin, Do, Care}
 use Rattle.history_promises.specs.Promises.{care_makes}
-use Rattle.history_promises.proofs.Counts.{clash, true_or_false, below_put, none_below}
+use Rattle.history_promises.proofs.Counts.{clash, below_put, none_below}
 use Rattle.history_promises.proofs.Turns.{ahead_now, ahead_earlier}
 use Rattle.history_promises.proofs.Words.{topped, clearing_for, word_at_rest, agrees_same, agrees_empty}
 use Rattle.history_promises.proofs.Tied.{mode_number, with_ticket, request_for, is_nobody, has_ticket, may_clear, Tied, Change, tied_after}
@@ -74,7 +75,7 @@ module _ {n : ℕ} {s : State} {L : Ledger} (T : Tied n s L) (i : ℕ) (here : i
       subst (λ (g : Stage). Tied n (went_to s i (L.seats i).about (with_ticket Waiting (at_last Waits) longer) (add_of (word_now s L i) (step_of (ticket_counter (L.seats i).kind)))) (granted_or_waits g i Waits L)) (sym e)
       (tied_went T i here lent (drawn i Waits L) _ _
       (drawn_moved T i here lent e low Waits refl refl refl (drawn_owns T i here lent e low Waits refl refl refl))))))
-      (true_or_false (topped (mine L i)))
+      (cases_Bool (topped (mine L i)))
     where
       at_last : Stage → Seat
       at_last g = record { stage = g; about = (L.seats i).about; kind = (L.seats i).kind; place = length (mine L i) }

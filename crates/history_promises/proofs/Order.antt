@@ -8,11 +8,12 @@ use mathlib.Core.Logic.{◌⊎◌, inl, inr}
 use mathlib.Core.List.{List, [], ◌∷◌, ◌++◌}
 use native.Mathlib.Omega.{arith}
 use lib.ListN.{length, take}
+use Rattle.std.proofs.lemmas.Bool.{cases_Bool}
 use Rattle.agent_ticket.specs.declared.Mode.{Mode}
 use Rattle.agent_ticket.specs.declared.Mode.TheVariants.{Reader, Writer}
 use Rattle.history_promises.specs.Tickets.{Given, conflicts, past_the_last, ticket_at, same_kind, counted, given_of, is_released, released_of, EarlierReleased}
 use Rattle.history_promises.specs.Ledger.{as_released, released_at, one}
-use Rattle.history_promises.proofs.Counts.{clash, true_or_false, counted_cons, counted_nil, counted_append, counted_one, counted_set}
+use Rattle.history_promises.proofs.Counts.{clash, counted_cons, counted_nil, counted_append, counted_one, counted_set}
 
 -- unreleased ones of a kind
 abbrev pub is_open : Mode → Given → Bool
@@ -116,7 +117,7 @@ release_ordered [] p h e r o = absurd (omega arith)
 release_ordered (t ∷ l) zero h e r (first b o) = first (record { behind = λ u. clash true refl u }) o
 release_ordered (t ∷ l) (suc p) h e r (first b o) =
     let inner = release_ordered l p (omega arith) e (λ j k c. r (suc j) (omega arith) c) o in
-    first {l = released_at l p} (record { behind = λ u j c. by u j c (true_or_false (same_kind j (ticket_at l p).kind)) }) inner
+    first {l = released_at l p} (record { behind = λ u j c. by u j c (cases_Bool (same_kind j (ticket_at l p).kind)) }) inner
   where
     by : t.released ≡ false → (j : Mode) → conflicts j t.kind ≡ true → (same_kind j (ticket_at l p).kind ≡ true) ⊎ (same_kind j (ticket_at l p).kind ≡ false) → released_of j (released_at l p) ≡ 0
     by u j c (inl s) =

@@ -10,6 +10,7 @@ use native.Mathlib.Omega.{arith}
 use borrow.Author.Tests.{leb-true, leb-false, ltb-false, eqb-false, ne_eqb}
 use lib.Dec.{eqb, leb, ltb}
 use lib.ListN.{length, set}
+use Rattle.std.proofs.lemmas.Bool.{cases_Bool}
 use Rattle.common.specs.Choice.{when◌then◌else◌}
 use Rattle.common.proofs.Choices.{either_by}
 use Rattle.agent_ticket.specs.declared.Mode.{Mode}
@@ -29,7 +30,7 @@ use Rattle.history_promises.specs.Ledger.{Stage, Ledger, mine, noted_care}
 use Rattle.history_promises.specs.Ledger.Stage.{Nobody, Asks, Waits, Holds, Owes, Clears}
 use Rattle.history_promises.specs.Promises.{HasTicket, SeatHasItsTicket, TicketHasItsSeat, StepTells, ReleaseTells, ToldByStage, DueExactly, BegunIsFresh}
 use Rattle.history_promises.specs.Promises.{CareTells, care_makes}
-use Rattle.history_promises.proofs.Counts.{clash, true_or_false}
+use Rattle.history_promises.proofs.Counts.{clash}
 use Rattle.history_promises.proofs.Turns.{ahead_now}
 use Rattle.history_promises.proofs.Words.{topped, topped_or, or_topped, clearing_for, word_at_rest, rest_is_some}
 use Rattle.history_promises.proofs.Tied.{Owns, Facts, Tied, is_nobody, has_ticket, keeps_at, lent_at}
@@ -64,7 +65,7 @@ SameAs s L i m = (cared i s ≡ made m s) × (noted_care i (cared i s).answer L 
 module _ {n : ℕ} {s : State} {L : Ledger} (T : Tied n s L) where
   -- a slot at a stage is one of the 256
   pub in_board : (i : ℕ) (g : Stage) → (L.seats i).stage ≡ g → is_nobody g ≡ false → i < SLOTS
-  in_board i g e f = ⊎_elim (λ h. clash (is_nobody g) (sym (ap is_nobody e) ∙ ap is_nobody (T.beyond i (leb-true SLOTS i h))) f) (λ h. leb-false SLOTS i h) (true_or_false (leb SLOTS i))
+  in_board i g e f = ⊎_elim (λ h. clash (is_nobody g) (sym (ap is_nobody e) ∙ ap is_nobody (T.beyond i (leb-true SLOTS i h))) f) (λ h. leb-false SLOTS i h) (cases_Bool (leb SLOTS i))
 
   pub lent_to_law : (i : ℕ) (g : Stage) → (L.seats i).stage ≡ g → is_nobody g ≡ false → (L.seats i).about < n
   lent_to_law i g e f = lent_at T i (in_board i g e f) g e f
@@ -100,7 +101,7 @@ module _ {n : ℕ} {s : State} {L : Ledger} (T : Tied n s L) where
       (λ top. subst (λ (d : Done). StepTells Asks d.answer) (sym (step_asks_full s i here (L.seats i) (mine L i) inside few a (keeps_at T i here Asks e) top)) (inl refl))
       (λ low. subst (λ (d : Done). StepTells Asks d.answer) (sym (step_asks_turn s i here (L.seats i) (mine L i) inside few a low (keeps_at T i here Asks e)))
       (either_by (λ (d : Done). StepTells Asks d.answer) (eqb (ahead_now (L.seats i).kind (mine L i ++ record { kind = (L.seats i).kind; slot = i; released = false } ∷ []) (length (mine L i))) 0) (λ z. inr (inl refl)) (λ z. inr (inr (_, refl)))))
-      (true_or_false (topped (mine L i)))
+      (cases_Bool (topped (mine L i)))
   step_told_law i here Clears e =
       let lent = lent_to_law i Clears e refl in
       let closing = facts_of i Clears e refl in

@@ -8,6 +8,7 @@ use mathlib.Core.List.{List}
 use native.Mathlib.Omega.{arith}
 use borrow.Author.Tests.{ne_eqb}
 use lib.ListN.{length, get_or}
+use Rattle.std.proofs.lemmas.Bool.{cases_Bool}
 use Rattle.common.proofs.Choices.{same_or_not}
 use Rattle.agent_ticket.specs.declared.Mode.{Mode}
 use Rattle.agent_ticket.specs.declared.Mode.TheVariants.{Reader, Writer}
@@ -20,7 +21,7 @@ use Rattle.board_rules.specs.Board.{State, slot_at}
 use Rattle.history_promises.specs.Tickets.{Given, ticket_at, EarlierReleased}
 use Rattle.history_promises.specs.Ledger.{Stage, Seat, Ledger, mine, owes_on, owed}
 use Rattle.history_promises.specs.Ledger.Stage.{Nobody, Asks, Waits, Holds, Owes, Clears}
-use Rattle.history_promises.proofs.Counts.{clash, true_or_false, below_lt, below_same}
+use Rattle.history_promises.proofs.Counts.{clash, below_lt, below_same}
 use Rattle.history_promises.proofs.Turns.{ticket_of}
 use Rattle.history_promises.proofs.Words.{Agrees, agrees_same, topped, clearing_for}
 
@@ -139,7 +140,7 @@ may_not_owe r k t e = by t.stage refl
 
 -- at most 255 withdrawals of a kind are owed: one slot has the last ticket
 pub few_owed : {n : ℕ} {s : State} {L : Ledger} → Tied n s L → (r : ℕ) → r < n → (k : Mode) → owed L.seats r k ≤ 255
-few_owed {n} {s} {L} T r h k = ⊎_elim topmost lower (true_or_false (topped (L.tickets r)))
+few_owed {n} {s} {L} T r h k = ⊎_elim topmost lower (cases_Bool (topped (L.tickets r)))
   where
     topmost : topped (L.tickets r) ≡ true → owed L.seats r k ≤ 255
     topmost e =

@@ -11,6 +11,7 @@ use native.Mathlib.Omega.{arith}
 use borrow.Author.Tests.{leb-true, leb-false, le-leb, lt-leb, eqb-true, eqb-false, eq-eqb}
 use lib.Dec.{eqb, leb}
 use lib.ListN.{length, length-append}
+use Rattle.std.proofs.lemmas.Bool.{or_parts, or_right}
 use Rattle.common.specs.Choice.{when◌then◌else◌}
 use Rattle.word_layout.specs.Word.{step_of, back_of, held_by, split_of, join_of, add_of}
 use Rattle.word_layout.specs.Promises.{Narrow, changed}
@@ -48,17 +49,9 @@ pub record Agrees (l : List Given) (o : Mode → ℕ) (w : ℕ) : Type 0 where
   pub owing : topped l ≡ false → (k : Mode) → o k ≡ 0
 
 -- below the ceiling
-or_false : (x y : Bool) → (x || y) ≡ false → (x ≡ false) × (y ≡ false)
-or_false true y e = clash true refl e
-or_false false y e = (refl, e)
-
-or_true : (x : Bool) {y : Bool} → y ≡ true → (x || y) ≡ true
-or_true true e = refl
-or_true false e = e
-
 pub not_topped : (l : List Given) → topped l ≡ false → (k : Mode) → given_of k l < CEIL
-not_topped l e Writer = leb-false CEIL (given_of Writer l) (or_false (leb CEIL (given_of Writer l)) (leb CEIL (given_of Reader l)) e).0
-not_topped l e Reader = leb-false CEIL (given_of Reader l) (or_false (leb CEIL (given_of Writer l)) (leb CEIL (given_of Reader l)) e).1
+not_topped l e Writer = leb-false CEIL (given_of Writer l) (or_parts (leb CEIL (given_of Writer l)) (leb CEIL (given_of Reader l)) e).0
+not_topped l e Reader = leb-false CEIL (given_of Reader l) (or_parts (leb CEIL (given_of Writer l)) (leb CEIL (given_of Reader l)) e).1
 
 pub topped_or : (l : List Given) → topped l ≡ true → (CEIL ≤ given_of Writer l) ⊎ (CEIL ≤ given_of Reader l)
 topped_or l e = by (leb CEIL (given_of Writer l)) (leb CEIL (given_of Reader l)) refl refl e
@@ -70,7 +63,7 @@ topped_or l e = by (leb CEIL (given_of Writer l)) (leb CEIL (given_of Reader l))
 
 pub or_topped : (l : List Given) (k : Mode) → CEIL ≤ given_of k l → topped l ≡ true
 or_topped l Writer h = rw (le-leb CEIL (given_of Writer l) h) refl
-or_topped l Reader h = or_true (leb CEIL (given_of Writer l)) (le-leb CEIL (given_of Reader l) h)
+or_topped l Reader h = or_right (leb CEIL (given_of Writer l)) _ (le-leb CEIL (given_of Reader l) h)
 
 -- what a counter of four is
 abbrev pub held_in : Counter → Counters → ℕ
@@ -213,7 +206,7 @@ module _ {l : List Given} {o : Mode → ℕ} {w : ℕ} (a : Agrees l o w) where
           full_writers h = rw (le-leb CEIL (given_of Writer l + o Writer) h) refl
 
           full_readers : CEIL ≤ given_of Reader l + o Reader → full_at (counters_of l o) ≡ true
-          full_readers h = or_true (leb CEIL (given_of Writer l + o Writer)) (le-leb CEIL (given_of Reader l + o Reader) h)
+          full_readers h = or_right (leb CEIL (given_of Writer l + o Writer)) _ (le-leb CEIL (given_of Reader l + o Reader) h)
       by false e =
           rw (
             e,

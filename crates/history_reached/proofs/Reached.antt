@@ -11,6 +11,7 @@ use native.Mathlib.Omega.{arith}
 use borrow.Author.Tests.{lt-leb, ltb-true, ltb-false, ne_eqb}
 use lib.Dec.{eqb, ltb}
 use lib.ListN.{length, get_or, length-append, get_or-eq_default}
+use Rattle.std.proofs.lemmas.Bool.{cases_Bool}
 use Rattle.agent_ticket.specs.declared.Mode.{Mode}
 use Rattle.agent_ticket.specs.declared.Mode.TheVariants.{Reader, Writer}
 use Rattle.agent_request.specs.Request.{in_use, free_request}
@@ -30,7 +31,7 @@ use Rattle.history_promises.specs.History.Move.{Do}
 use Rattle.history_promises.specs.Promises.{ToldByStage, Demand}
 use Rattle.history_reached.specs.Reached.{FullIsReached, OwesIsReached, ClearingDueIsReached}
 use Rattle.history_reached.specs.Reached.{ClearsIsReached, NotYetClearIsReached, ClearedIsReached}
-use Rattle.history_promises.proofs.Counts.{clash, true_or_false, counted_append, counted_one}
+use Rattle.history_promises.proofs.Counts.{clash, counted_append, counted_one}
 use Rattle.history_promises.proofs.Order.{given_set}
 use Rattle.history_promises.proofs.Tied.{Tied, has_ticket, keeps_at}
 use Rattle.history_promises.proofs.Kept.{tied, ledger_then}
@@ -89,13 +90,13 @@ module _ {L : Ledger} (R : Reached L) where
 
   -- where nobody has a ticket, all are released
   all_released : ((i : ℕ) → has_ticket (L.seats i).stage ≡ false) → AllReleased (L.tickets 0)
-  all_released none i = ⊎_elim inside past (true_or_false (ltb i (length (L.tickets 0))))
+  all_released none i = ⊎_elim inside past (cases_Bool (ltb i (length (L.tickets 0))))
     where
       inside : ltb i (length (L.tickets 0)) ≡ true → (ticket_at (L.tickets 0) i).released ≡ true
       inside h =
           ⊎_elim (λ e. e)
           (λ e. let o = is_tied.owner 0 i (omega arith) (ltb-true _ _ h) e in clash _ o.has (none (ticket_at (L.tickets 0) i).slot))
-          (true_or_false (ticket_at (L.tickets 0) i).released)
+          (cases_Bool (ticket_at (L.tickets 0) i).released)
 
       past : ltb i (length (L.tickets 0)) ≡ false → (ticket_at (L.tickets 0) i).released ≡ true
       past h = ap (λ (t : Given). t.released) (get_or-eq_default (L.tickets 0) past_the_last (ltb-false _ _ h))

@@ -12,6 +12,7 @@ use native.Mathlib.Omega.{arith}
 use borrow.Author.Tests.{ltb-true, ltb-false, eqb-true, eq-eqb}
 use lib.Dec.{eqb, ltb}
 use lib.ListN.{length, get_or-eq_default}
+use Rattle.std.proofs.lemmas.Bool.{cases_Bool, and_parts, and_from, not-true, not-false}
 use Rattle.agent_request.specs.declared.Request.{Request}
 use Rattle.agent_request.specs.Request.{phase_of, in_use, free_request}
 use Rattle.agent_rules.specs.declared.Answer.TheVariants as tells
@@ -24,13 +25,12 @@ use Rattle.board_rules.specs.Board.{State, slot_at}
 use Rattle.board_nodes.specs.Site.{Site, inner, shut_at, played_at}
 use Rattle.board_nodes.specs.Answers.{said_of_any}
 use Rattle.repair_rules.specs.Repair.{is_lost, brings_on, told_of, repair_of}
-use Rattle.repair_rules.proofs.Cares.{both_first, both_second}
 use Rattle.repair_rules.proofs.Ends.{repair_rests}
 use Rattle.history_promises.specs.Tickets.{Given, past_the_last, ticket_at, AllReleased}
 use Rattle.history_promises.specs.Ledger.{Stage, Ledger, mine, is_owing}
 use Rattle.history_promises.specs.Ledger.Stage.{Nobody, Asks, Waits, Holds, Owes, Clears}
 use Rattle.history_promises.specs.Promises.{HasTicket, StepTells, ReleaseTells, CareTells, NoneOwed}
-use Rattle.history_promises.proofs.Counts.{clash, true_or_false}
+use Rattle.history_promises.proofs.Counts.{clash}
 use Rattle.history_promises.proofs.Tied.{is_nobody, has_ticket, Tied, keeps_at}
 use Rattle.history_promises.proofs.Seats.{in_board, lent_to_law}
 use Rattle.history_promises.proofs.Demand.{demand}
@@ -54,7 +54,7 @@ least f (suc p) =
     ⊎_elim
     (λ e. inr (p, omega arith, e, none_yet))
     (λ e. inl (λ j h. ⊎_elim (λ q. ap f q ∙ e) (λ l. none_yet j l) (last j h)))
-    (true_or_false (f p)))
+    (cases_Bool (f p)))
     (λ w. inr (w.0, omega (arith, w.1), w.2, w.3))
     (least f p)
   where
@@ -64,14 +64,6 @@ least f (suc p) =
 -- a ticket that is not released, as a test
 abbrev is_open : List Given → ℕ → Bool
 is_open l j = not (ticket_at l j).released
-
-turned : (x : Bool) → not x ≡ true → x ≡ false
-turned false e = refl
-turned true e = sym e
-
-turned_back : (x : Bool) → not x ≡ false → x ≡ true
-turned_back true e = refl
-turned_back false e = sym e
 
 -- past the last there is none
 inside : (l : List Given) (p : ℕ) → (ticket_at l p).released ≡ false → p < length l
@@ -98,23 +90,19 @@ nobody_free {n} {s} {L} T i e = by (ltb i SLOTS) refl
 busy : (g h : Stage) → g ≡ h → is_nobody h ≡ false → g ≡ Nobody → ⊥
 busy g h e f q = clash (is_nobody h) (sym (ap is_nobody e) ∙ ap is_nobody q) f
 
--- both of two tests hold
-both : (x y : Bool) → x ≡ true → y ≡ true → (x && y) ≡ true
-both x y p q = rw p q
-
 module _ {n : ℕ} (u : Site) {L : Ledger} (T : Tied n (inner u) L) (rests : (i : ℕ) → is_lost u i ≡ true → brings_on (told_of i u) ≡ false) where
   abbrev Sat : ℕ → Type 0
   Sat i = (L.seats i).stage ≡ Nobody → ⊥
 
   lost_sat : (i : ℕ) → is_lost u i ≡ true → Sat i
-  lost_sat i lost e = clash (in_use (slot_at (inner u) i)) (both_first (in_use (slot_at (inner u) i)) (shut_at u i) lost) (nobody_free T i e)
+  lost_sat i lost e = clash (in_use (slot_at (inner u) i)) (and_parts (in_use (slot_at (inner u) i)) (shut_at u i) lost).0 (nobody_free T i e)
 
   sat_lost : (i : ℕ) → Sat i → shut_at u i ≡ true → is_lost u i ≡ true
-  sat_lost i d h = both (in_use (slot_at (inner u) i)) (shut_at u i) (in_use_law T i d) h
+  sat_lost i d h = and_from (in_use (slot_at (inner u) i)) (shut_at u i) (in_use_law T i d) h
 
   -- what the care of a lost slot is told, and that it is nothing that brings it on
   lost_told : (i : ℕ) → is_lost u i ≡ true → CareTells (L.seats i).stage (played_at (Care i) u).answer (plain u (Step i)) (plain u (Release i))
-  lost_told i lost = ((gates u T).fenced_slot i (lost_sat i lost) (both_second (in_use (slot_at (inner u) i)) (shut_at u i) lost)).2
+  lost_told i lost = ((gates u T).fenced_slot i (lost_sat i lost) (and_parts (in_use (slot_at (inner u) i)) (shut_at u i) lost).1).2
 
   not_told : {X : Type 0} (i : ℕ) → is_lost u i ≡ true → (a : Answer) → (played_at (Care i) u).answer ≡ a → bringing i (slot_at (inner u) i).phase a ≡ true → X
   not_told i lost a e b = clash (brings_on (told_of i u)) (ap (bringing i (slot_at (inner u) i).phase) e ∙ b) (rests i lost)
@@ -154,7 +142,7 @@ module _ {n : ℕ} (u : Site) {L : Ledger} (T : Tied n (inner u) L) (rests : (i 
 
   -- the oldest unreleased ticket is that of a slot that lives
   oldest_lives : OldestLives n L u
-  oldest_lives r p lent unreleased earlier = (unreleased, ⊎_elim shut (λ e. e) (true_or_false (shut_at u i)))
+  oldest_lives r p lent unreleased earlier = (unreleased, ⊎_elim shut (λ e. e) (cases_Bool (shut_at u i)))
     where
       i : ℕ
       i = (ticket_at (L.tickets r) p).slot
@@ -181,14 +169,14 @@ module _ {n : ℕ} (u : Site) {L : Ledger} (T : Tied n (inner u) L) (rests : (i 
   oldest r p lent w = (
     w.0,
     w.1,
-    oldest_lives r w.0 lent (turned (ticket_at (L.tickets r) w.0).released w.2)
-        (λ k h. turned_back (ticket_at (L.tickets r) k).released (w.3 k h)),
+    oldest_lives r w.0 lent (not-true (ticket_at (L.tickets r) w.0).released w.2)
+        (λ k h. not-false (ticket_at (L.tickets r) k).released (w.3 k h)),
   )
 
   none_waits : NoneWaitsForTheLostAlone L u
   none_waits i e =
       ⊎_elim
-      (λ none_open. inl (λ j h c. turned_back (ticket_at (mine L i) j).released (none_open j h)))
+      (λ none_open. inl (λ j h c. not-false (ticket_at (mine L i) j).released (none_open j h)))
       (λ w. inr (oldest (L.seats i).about (L.seats i).place (lent_to_law T i Waits e refl) w))
       (least (is_open (mine L i)) (L.seats i).place)
 
@@ -213,10 +201,10 @@ module _ {n : ℕ} (u : Site) {L : Ledger} (T : Tied n (inner u) L) (rests : (i 
   owing_one i j h =
       let x = is_owing (L.seats j).stage in
       let y = eqb (L.seats j).about (L.seats i).about in
-      (owes (L.seats j).stage (both_first x y h), eqb-true (L.seats j).about (L.seats i).about (both_second x y h))
+      (owes (L.seats j).stage (and_parts x y h).0, eqb-true (L.seats j).about (L.seats i).about (and_parts x y h).1)
 
   owes_lives : (j : ℕ) → (L.seats j).stage ≡ Owes → shut_at u j ≡ false
-  owes_lives j e = ⊎_elim shut (λ h. h) (true_or_false (shut_at u j))
+  owes_lives j e = ⊎_elim shut (λ h. h) (cases_Bool (shut_at u j))
     where
       shut : shut_at u j ≡ true → shut_at u j ≡ false
       shut h =
@@ -239,12 +227,12 @@ module _ {n : ℕ} (u : Site) {L : Ledger} (T : Tied n (inner u) L) (rests : (i 
       all : ((j : ℕ) → j < length (mine L i) → is_open (mine L i) j ≡ false) → AllReleased (mine L i)
       all h j =
           let x = (ticket_at (mine L i) j).released in
-          ⊎_elim (λ o. o) (λ o. turned_back x (h j (inside (mine L i) j o))) (true_or_false x)
+          ⊎_elim (λ o. o) (λ o. not-false x (h j (inside (mine L i) j o))) (cases_Bool x)
 
       none_owed : ((j : ℕ) → j < SLOTS → owing i j ≡ false) → NoneOwed L (L.seats i).about
       none_owed h j o a =
           clash (owing i j)
-          (both (is_owing (L.seats j).stage) (eqb (L.seats j).about (L.seats i).about) (ap is_owing o) (eq-eqb (L.seats j).about (L.seats i).about a))
+          (and_from (is_owing (L.seats j).stage) (eqb (L.seats j).about (L.seats i).about) (ap is_owing o) (eq-eqb (L.seats j).about (L.seats i).about a))
           (h j (in_board T j Owes o refl))
 
   kept_so : LostSlotsAreKeptSo u
@@ -274,11 +262,11 @@ module _ {n : ℕ} (u : Site) {L : Ledger} (T : Tied n (inner u) L) (rests : (i 
         clash (shut_at u i) (only i (in_use_law T i (has_sat (L.seats i).stage seat.0))) l.1
 
     none_left : (i : ℕ) → in_use (slot_at (inner u) i) ≡ false
-    none_left i = ⊎_elim still (λ e. e) (true_or_false (in_use (slot_at (inner u) i)))
+    none_left i = ⊎_elim still (λ e. e) (cases_Bool (in_use (slot_at (inner u) i)))
       where
         still : in_use (slot_at (inner u) i) ≡ true → in_use (slot_at (inner u) i) ≡ false
         still h =
-            let lost = both (in_use (slot_at (inner u) i)) (shut_at u i) h (only i h) in
+            let lost = and_from (in_use (slot_at (inner u) i)) (shut_at u i) h (only i h) in
             ⊎_elim
             (λ e. let w = waiter_waits i lost e in none_lives (L.seats i).about w.0 (lent_to_law T i Waits e refl) w.2)
             (λ e.

@@ -1,4 +1,6 @@
 // Plays the schedule on standard input and prints its lines. One byte more than is played is read, which shows that there are too many.
+// `program_repair` reads in the same way: a function for both would be public, and hand back what a read
+// gives, which no contract determines; that would be a new exception in docs/CONTRACTS.md.
 #![tactic(auto)]
 
 use std::io;

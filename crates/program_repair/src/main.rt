@@ -1,4 +1,6 @@
 // Plays the schedule on standard input as the player does, repairs the board that it left, and prints the lines of both.
+// `program_player` reads in the same way: a function for both would be public, and hand back what a read
+// gives, which no contract determines; that would be a new exception in docs/CONTRACTS.md.
 #![tactic(auto)]
 
 use std::io;

@@ -19,7 +19,6 @@ use Rattle.repair_rules.proofs.Logs.{logged_apart, log_holds_all}
 use Rattle.repair_pass.specs.Passes.{PassLeaves}
 use Rattle.repair_pass.specs.declared.PassMade.{PassMade}
 use Rattle.repair_all.specs.Repairs.{tended_of, Repairs}
-use Rattle.repair_all.specs.declared.Repaired.{Repaired}
 
 pub record Repairing (t₀ : Site) (log₀ : List ℕ) (t : Site) (log : List ℕ) (cares passes : ℕ) : Type 0 where
   pub lent : length t.words ≡ length t₀.words
@@ -47,21 +46,20 @@ begins t log =
     }
 
 -- what a repair came to, put together: all its passes are done
-module _ (b : Board) (words₀ log₀ : List ℕ) (r : Repaired) (board : Board) (words log : List ℕ) (cares : ℕ) (done : Bool) where
+module _ (b : Board) (words₀ log₀ : List ℕ) (board : Board) (words log : List ℕ) (cares : ℕ) (done : Bool) where
   pub came :
-      r ≡ record { board = board; cares = cares; done = done } →
       (tended_of b words₀ log₀).site ≡ lent_to board words →
       length (tended_of b words₀ log₀).cares ≡ cares →
       done_in (length log₀ / 768) (lent_to b words₀) ≡ done →
       logged_at log₀ 0 (tended_of b words₀ log₀).cares ≡ log →
-      Repairs b words₀ log₀ r words log
-  came e site count is_done logged =
+      Repairs b words₀ log₀ (record { board = board; cares = cares; done = done }) words log
+  came site count is_done logged =
       record {
-        slots_after = ap (λ (x : Repaired). x.board.slots) e ∙ sym (ap (λ (x : Site). x.slots) site);
-        nodes_after = ap (λ (x : Repaired). x.board.nodes) e ∙ sym (ap (λ (x : Site). x.nodes) site);
-        fenced_after = ap (λ (x : Repaired). x.board.fenced) e ∙ sym (ap (λ (x : Site). x.fenced) site);
-        cares_made = ap (λ (x : Repaired). x.cares) e ∙ sym count;
-        is_done = ap (λ (x : Repaired). x.done) e ∙ sym is_done;
+        slots_after = sym (ap (λ (x : Site). x.slots) site);
+        nodes_after = sym (ap (λ (x : Site). x.nodes) site);
+        fenced_after = sym (ap (λ (x : Site). x.fenced) site);
+        cares_made = sym count;
+        is_done = sym is_done;
         words_after = sym (ap (λ (x : Site). x.words) site);
         log_after = sym logged ∙ log_holds_all log₀ (lent_to b words₀);
       }
@@ -135,28 +133,29 @@ module _
     -- or nothing: it is the last
     pub is_last :
         r.progress ≡ false →
-        (z : Repaired) →
-        z ≡ record { board = r.board; cares = cares + r.cares; done = true } →
-        Repairs b words₀ log₀ z words' log'
-    is_last on z e =
+        Repairs b words₀ log₀ (record { board = r.board; cares = cares + r.cares; done = true }) words' log'
+    is_last on =
         let k = length log₀ / 768 - (passes + 1) in
         let none : some_bring_on (pass_of t).cares ≡ false = sym l.brings ∙ on in
         let rest : passes_of (length log₀ / 768 - passes) t ≡ pass_of t = next _ (passes_end k t none) in
-        came b words₀ log₀ z r.board words' log' (cares + r.cares) true e (p.left ∙ ap (λ (x : Tended). x.site) rest ∙ after)
+        came b words₀ log₀ r.board words' log' (cares + r.cares) true (p.left ∙ ap (λ (x : Tended). x.site) rest ∙ after)
         (p.count ∙ ap (λ (x : Tended). cares + length x.cares) rest ∙ ap (λ (n : ℕ). cares + n) (sym l.cares_made))
         (p.is_done ∙ next_done _ (done_end k t none))
         (p.logged ∙ ap (λ (x : Tended). logged_at log (cares * 3) x.cares) rest ∙ sym l.log_after)
 
   -- no room for another pass
   pub cut_off :
-      length log₀ / 768 ≤ passes → (z : Repaired) → z ≡ record { board = cur; cares = cares; done = false } → Repairs b words₀ log₀ z words log
+      length log₀ / 768 ≤ passes →
+      {done : Bool} →
+      done ≡ false →
+      Repairs b words₀ log₀ (record { board = cur; cares = cares; done = done }) words log
   unfolding passes_of done_in logged_at
-  cut_off h z e =
+  cut_off h e =
       let g = p.within in
       let k : length log₀ / 768 - passes ≡ 0 = omega arith in
       let rest : passes_of (length log₀ / 768 - passes) (lent_to cur words) ≡ untended (lent_to cur words) =
       ap (λ (n : ℕ). passes_of n (lent_to cur words)) k in
-      came b words₀ log₀ z cur words log cares false e (p.left ∙ ap (λ (x : Tended). x.site) rest)
+      came b words₀ log₀ cur words log cares _ (p.left ∙ ap (λ (x : Tended). x.site) rest)
       (p.count ∙ ap (λ (x : Tended). cares + length x.cares) rest ∙ add-zero cares)
-      (p.is_done ∙ ap (λ (n : ℕ). done_in n (lent_to cur words)) k)
+      (p.is_done ∙ ap (λ (n : ℕ). done_in n (lent_to cur words)) k ∙ sym e)
       (p.logged ∙ ap (λ (x : Tended). logged_at log (cares * 3) x.cares) rest)

@@ -2,12 +2,12 @@
 // by another call on the board that it left (`PassesTakenUpAgain`). It relies on the contract of `repair_pass` alone.
 #![tactic(auto)]
 
-ghost use Rattle.std.specs.Prelude.{◌≡◌};
 ghost use Rattle.repair_all.specs.Repairs.{Repairs};
 
 use board_slots::Board;
 
 // A board after passes, how many cares they made, and whether the last of them brought nothing on.
+// No Result: the board and the cares hold either way.
 #[derive(Clone, Copy)]
 pub struct Repaired {
     pub board: Board,
@@ -15,30 +15,24 @@ pub struct Repaired {
     pub done: bool,
 }
 
-// The parts of what a repair came to, put together.
-fn came_to(board: Board, cares: usize, done: bool) -> Repaired
-    ensures { result ≡ record { board = board; cares = cares; done = done } }
-{
-    Repaired { board, cares, done }
-}
-
 // Passes over all slots, each of at most 768 bytes of the log: 3 for a care, one behind the other from the start on.
-pub fn repair(b: Board, words: &mut [u64], log: &mut [u8]) -> Repaired
+pub fn repair(mut b: Board, words: &mut [u64], log: &mut [u8]) -> Repaired
     ensures { Repairs b words.old log.old result words.new log.new }
 {
-    let most = log.len() / 768;
-    let mut cur = b;
     let mut cares: usize = 0;
-    let mut passes: usize = 0;
-    while passes < most {
-        let p = repair_pass::pass(cur, words, log, cares * 3);
-        let after = p.board;
-        cur = after;
-        cares += p.cares;
-        passes += 1;
-        if !p.progress {
-            return came_to(cur, cares, true);
+    let mut done = false;
+    for _ in 0..log.len() / 768 {
+        let made = repair_pass::pass(b, words, log, cares * 3);
+        b = made.board;
+        cares += made.cares;
+        if !made.progress {
+            done = true;
+            break;
         }
     }
-    came_to(cur, cares, false)
+    Repaired {
+        board: b,
+        cares,
+        done,
+    }
 }

@@ -3,7 +3,7 @@
 -- Assumes nothing.
 use Prim.Native.Nat.{ℕ, suc, ◌+◌, ◌-◌, ◌<◌, ◌≤◌}
 use mathlib.Core.Path.{◌≡◌, refl, ap, sym, ◌∙◌}
-use mathlib.Core.Bool.{Bool, true, false, ◌||◌, or-false}
+use mathlib.Core.Bool.{Bool, true, false, ◌||◌, or-false, or_assoc}
 use mathlib.Core.List.{List, [], ◌∷◌}
 use native.Mathlib.Omega.{arith}
 use native.Mathlib.Nat.{add-zero}
@@ -25,7 +25,6 @@ use Rattle.repair_rules.specs.Repair.{Cared, Tended, untended, and_then, is_lost
 use Rattle.repair_rules.specs.Log.{care_bytes, fits_at, care_logged, place_after, logged_at}
 use Rattle.repair_rules.proofs.Cares.{care_of, left_at, care_leaves, care_tells, pass_skips, pass_cares}
 use Rattle.repair_pass.specs.Passes.{PassLeaves}
-use Rattle.repair_pass.specs.declared.PassMade.{PassMade}
 
 -- the pass from a slot on
 abbrev pub rest_of : ℕ → Site → Tended
@@ -42,26 +41,6 @@ pub record Passing (t₀ : Site) (log₀ : List ℕ) (at : ℕ) (t : Site) (log 
   pub count : length (pass_of t₀).cares ≡ cares + length (rest_of i t).cares
   pub brings : some_bring_on (pass_of t₀).cares ≡ (on || some_bring_on (rest_of i t).cares)
   pub logged : logged_at log₀ at (pass_of t₀).cares ≡ logged_at log place (rest_of i t).cares
-
--- before the first slot
-pub begins : (t : Site) (log : List ℕ) (at : ℕ) → length t.slots ≡ 256 → ((j : ℕ) → node_at t j < 256) → Passing t log at t log at 0 false 0
-begins t log at long noded =
-    record {
-      long = long;
-      noded = noded;
-      lent = refl;
-      room = refl;
-      within = omega arith;
-      few = omega arith;
-      left = refl;
-      count = omega arith;
-      brings = refl;
-      logged = refl;
-    }
-
-or_again : (x y z : Bool) → (x || (y || z)) ≡ ((x || y) || z)
-or_again true y z = refl
-or_again false y z = refl
 
 logged_long : (log : List ℕ) (at : ℕ) (c : Cared) → length (care_logged log at c) ≡ length log
 logged_long log at c = either (λ (l : List ℕ). length l ≡ length log) (fits_at log at) (length-sets log at (care_bytes c)) refl
@@ -155,7 +134,7 @@ module _
             p.count ∙ ap (λ (x : Tended). cares + length x.cares) rest in
             omega arith;
         brings =
-            p.brings ∙ ap (λ (x : Tended). on || some_bring_on x.cares) rest ∙ or_again on (brings_on c) (some_bring_on w.cares) ∙
+            p.brings ∙ ap (λ (x : Tended). on || some_bring_on x.cares) rest ∙ sym (or_assoc on (brings_on c) (some_bring_on w.cares)) ∙
             ap (λ (b : Bool). b || some_bring_on w.cares) (sym eb);
         logged =
             p.logged ∙ ap (λ (x : Tended). logged_at log place x.cares) rest ∙ logged_one log place c w.cares ∙
@@ -176,10 +155,8 @@ pub ends :
     (b : Board) (words₀ log₀ : List ℕ) (at : ℕ) (cur : Board) (words log : List ℕ) (place cares : ℕ) (on : Bool) (i : ℕ) →
     Passing (lent_to b words₀) log₀ at (lent_to cur words) log place cares on i →
     256 ≤ i →
-    (r : PassMade) →
-    r ≡ record { board = cur; cares = cares; progress = on } →
-    PassLeaves b words₀ log₀ at r words log
-ends b words₀ log₀ at cur words log place cares on i p h r e =
+    PassLeaves b words₀ log₀ at (record { board = cur; cares = cares; progress = on }) words log
+ends b words₀ log₀ at cur words log place cares on i p h =
     let t = lent_to cur words in
     let g = p.within in
     let k : 256 - i ≡ 0 = omega arith in
@@ -188,14 +165,12 @@ ends b words₀ log₀ at cur words log place cares on i p h r e =
     ap (λ (n : ℕ). pass_from n i t) k ∙ ap (λ (n : ℕ). pass_from 0 n t) j ∙ none_left t in
     let site : (pass_of (lent_to b words₀)).site ≡ t = p.left ∙ ap (λ (x : Tended). x.site) rest in
     record {
-      slots_after = ap (λ (x : PassMade). x.board.slots) e ∙ sym (ap (λ (x : Site). x.slots) site);
-      nodes_after = ap (λ (x : PassMade). x.board.nodes) e ∙ sym (ap (λ (x : Site). x.nodes) site);
-      fenced_after = ap (λ (x : PassMade). x.board.fenced) e ∙ sym (ap (λ (x : Site). x.fenced) site);
+      slots_after = sym (ap (λ (x : Site). x.slots) site);
+      nodes_after = sym (ap (λ (x : Site). x.nodes) site);
+      fenced_after = sym (ap (λ (x : Site). x.fenced) site);
       cares_made =
-          ap (λ (x : PassMade). x.cares) e ∙
           sym (p.count ∙ ap (λ (x : Tended). cares + length x.cares) rest ∙ add-zero cares);
       brings =
-          ap (λ (x : PassMade). x.progress) e ∙
           sym (p.brings ∙ ap (λ (x : Tended). on || some_bring_on x.cares) rest ∙ or-false on);
       words_after = sym (ap (λ (x : Site). x.words) site);
       log_after = sym (p.logged ∙ ap (λ (x : Tended). logged_at log place x.cares) rest ∙ nothing_logged log place);

@@ -1,15 +1,14 @@
 -- A care of a lost slot as a visit of it: its gate stands open, so the site is what the visit leaves. And a pass, one slot at a time.
 -- Assumes nothing.
 use Prim.Native.Nat.{ℕ, suc, ◌<◌}
-use mathlib.Core.Path.{◌≡◌, refl, ap, sym, ◌∙◌}
-use mathlib.Core.Bool.{Bool, true, false, ◌&&◌}
-use mathlib.Core.Logic.{◌⊎◌, inl, inr}
+use mathlib.Core.Path.{◌≡◌, refl, ap, ◌∙◌}
+use mathlib.Core.Bool.{Bool, true, false}
 use mathlib.Core.List.{List, [], ◌∷◌}
 use borrow.Author.Tests.{lt-leb, lt-ltb}
 use lib.Dec.{leb}
 use lib.ListN.{length, set}
 use lib.Seq.{set-get_or}
-use Rattle.common.specs.Choice.{when◌then◌else◌}
+use Rattle.std.proofs.lemmas.Bool.{and_parts}
 use Rattle.agent_request.specs.Request.{in_use}
 use Rattle.board_slots.specs.Slots.{SLOTS}
 use Rattle.board_call.specs.declared.AnyCall.TheVariants.{Care}
@@ -20,20 +19,6 @@ use Rattle.board_nodes.specs.Site.{Site, SiteDone, site_of, inner, node_at, shut
 use Rattle.board_nodes.specs.Visit.{care_visit, any_visit, stored_at}
 use Rattle.board_nodes.proofs.Visits.{any_visit_is_played}
 use Rattle.repair_rules.specs.Repair.{and_then, is_lost, told_of, pass_from}
-
--- both of two tests hold
-pub both_first : (x y : Bool) → (x && y) ≡ true → x ≡ true
-both_first true y e = refl
-both_first false y e = e
-
-pub both_second : (x y : Bool) → (x && y) ≡ true → y ≡ true
-both_second true y e = e
-both_second false y e = sym (ap (λ (z : Bool). when z then y else true) e)
-
--- a test says no or yes
-pub no_or_yes : (x : Bool) → (x ≡ false) ⊎ (x ≡ true)
-no_or_yes true = inr refl
-no_or_yes false = inl refl
 
 -- the visit of a slot by a care, and what is left of a site by a visit
 abbrev pub care_of : Site → ℕ → Visited
@@ -52,8 +37,8 @@ module _ (t : Site) (i : ℕ) (long : length t.slots ≡ SLOTS) (small : i < SLO
   lost_visit : played_at (Care i) t ≡ stored_at t (Care i) i (care_of t i)
   unfolding aim_of any_visit named_visit
   lost_visit =
-      let used : in_use (slot_at (inner t) i) ≡ true = both_first (in_use (slot_at (inner t) i)) (shut_at t i) lost in
-      let shut : shut_at t i ≡ true = both_second (in_use (slot_at (inner t) i)) (shut_at t i) lost in
+      let used : in_use (slot_at (inner t) i) ≡ true = (and_parts (in_use (slot_at (inner t) i)) (shut_at t i) lost).0 in
+      let shut : shut_at t i ≡ true = (and_parts (in_use (slot_at (inner t) i)) (shut_at t i) lost).1 in
       let far : leb SLOTS i ≡ false = lt-leb SLOTS i small in
       any_visit_is_played (Care i) t long ∙ (rw (far, used, shut, lt-ltb i SLOTS small) refl)
 

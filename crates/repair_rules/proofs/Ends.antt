@@ -13,6 +13,7 @@ use borrow.Author.Tests.{leb-true, leb-false}
 use lib.Dec.{leb}
 use lib.ListN.{length, get_or, set, length-set, get_or-eq_default}
 use lib.Seq.{set-get_or}
+use Rattle.std.proofs.lemmas.Bool.{and_parts, cases_Bool}
 use Rattle.agent_request.specs.Request.{phase_of, in_use, free_request}
 use Rattle.agent_request.specs.declared.Phase.{Phase}
 use Rattle.agent_request.specs.declared.Phase.TheVariants.{Free, Asking, Waiting, Held, Owing, Clearing}
@@ -28,7 +29,7 @@ use Rattle.board_nodes.proofs.Visits.{kept_same}
 use Rattle.repair_rules.specs.Repair.{Tended, is_lost, told_of, pass_from, pass_of, brings_on, some_bring_on, passes_of, PASSES}
 use Rattle.repair_rules.specs.Log.{done_in}
 use Rattle.repair_rules.specs.Promises.{RepairEnds, RepairRests}
-use Rattle.repair_rules.proofs.Cares.{both_first, no_or_yes, care_of, left_at, care_leaves, care_tells, pass_skips, pass_cares}
+use Rattle.repair_rules.proofs.Cares.{care_of, left_at, care_leaves, care_tells, pass_skips, pass_cares}
 use Rattle.repair_rules.proofs.Passes.{passes_go, passes_end, done_go, done_end}
 use Rattle.repair_rules.proofs.Moves.{rank_in, rank_of, visit_goes}
 
@@ -87,7 +88,7 @@ module _ (t : Site) (i : ℕ) (long : length t.slots ≡ SLOTS) (small : i < SLO
         subst (λ (u : Site). rank_sum u.slots < rank_sum t.slots) (sym (care_leaves t i long small lost))
             (sum_falls t.slots i v.request (omega arith) p.1),
       ))
-      (visit_goes i q t.words (both_first (in_use q) (shut_at t i) lost))
+      (visit_goes i q t.words (and_parts (in_use q) (shut_at t i) lost).0)
     where
       stays : (care_of t i).request ≡ slot_at (inner t) i → (care_of t i).words ≡ t.words → left_at t i (care_of t i) ≡ t
       stays e f =
@@ -140,12 +141,6 @@ pass_result (suc k) i t long fit =
     let fit' : suc i + k ≤ SLOTS = omega arith in
     let again : (u : Site) → length u.slots ≡ SLOTS → Passed k (suc i) u (pass_from k (suc i) u) = λ u l. pass_result k (suc i) u l fit' in
     ⊎_elim
-    (λ (no : is_lost t i ≡ false).
-    subst (Passed (suc k) i t) (sym (pass_skips k i t no))
-    (⊎_elim
-    (λ p. inl (p.0, p.1, quiet_more k i t (λ yes. absurd (apart (sym yes ∙ no))) p.2))
-    (λ p. inr p)
-    (again t long)))
     (λ (yes : is_lost t i ≡ true).
     let u = site_of (played_at (Care i) t) in
     let w = pass_from k (suc i) u in
@@ -178,7 +173,13 @@ pass_result (suc k) i t long fit =
     (λ p. let f = c.1 in let g = p.1 in inr (on, omega arith, p.2))
     (again u (care_long t i long small yes)))
     (care_goes t i long small yes)))
-    (no_or_yes (is_lost t i))
+    (λ (no : is_lost t i ≡ false).
+    subst (Passed (suc k) i t) (sym (pass_skips k i t no))
+    (⊎_elim
+    (λ p. inl (p.0, p.1, quiet_more k i t (λ yes. absurd (apart (sym yes ∙ no))) p.2))
+    (λ p. inr p)
+    (again t long)))
+    (cases_Bool (is_lost t i))
 
 pass_all : (t : Site) → length t.slots ≡ SLOTS → Passed SLOTS 0 t (pass_of t)
 pass_all t long = pass_result SLOTS 0 t long (omega arith)
@@ -224,12 +225,12 @@ rests_by (suc n) t long d =
 lost_small : (u : Site) (i : ℕ) → length u.slots ≡ SLOTS → is_lost u i ≡ true → i < SLOTS
 lost_small u i long lost =
     ⊎_elim
-    (λ (b : leb SLOTS i ≡ false). leb-false SLOTS i b)
     (λ (b : leb SLOTS i ≡ true).
     let h = leb-true SLOTS i b in
     let free : slot_at (inner u) i ≡ free_request = get_or-eq_default u.slots free_request (omega arith) in
-    absurd (apart (sym (both_first (in_use (slot_at (inner u) i)) (shut_at u i) lost) ∙ ap in_use free)))
-    (no_or_yes (leb SLOTS i))
+    absurd (apart (sym (and_parts (in_use (slot_at (inner u) i)) (shut_at u i) lost).0 ∙ ap in_use free)))
+    (λ (b : leb SLOTS i ≡ false). leb-false SLOTS i b)
+    (cases_Bool (leb SLOTS i))
 
 pub repair_rests : RepairRests
 repair_rests t long i lost =

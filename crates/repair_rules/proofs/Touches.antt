@@ -9,6 +9,7 @@ use mathlib.Core.List.{List}
 use native.Mathlib.Omega.{arith}
 use lib.ListN.{length, get_or, length-set}
 use lib.Seq.{get_or-set_other}
+use Rattle.std.proofs.lemmas.Bool.{cases_Bool}
 use Rattle.agent_request.specs.Request.{in_use, free_request}
 use Rattle.agent_request.specs.declared.Request.{Request}
 use Rattle.board_slots.specs.Slots.{SLOTS}
@@ -18,7 +19,7 @@ use Rattle.board_rules.proofs.Told.{apart}
 use Rattle.board_nodes.specs.Site.{Site, site_of, inner, node_at, fenced_at, played_at}
 use Rattle.repair_rules.specs.Repair.{Tended, is_lost, pass_from, pass_of, some_bring_on, passes_of, PASSES}
 use Rattle.repair_rules.specs.Promises.{LeavesSlot, PassTouchesLostOnly, RepairTouchesLostOnly}
-use Rattle.repair_rules.proofs.Cares.{no_or_yes, care_of, left_at, care_leaves, pass_skips, pass_cares}
+use Rattle.repair_rules.proofs.Cares.{care_of, left_at, care_leaves, pass_skips, pass_cares}
 use Rattle.repair_rules.proofs.Passes.{passes_go, passes_end}
 
 -- one site after another: as many slots, the same fences, and what was not lost left
@@ -72,13 +73,13 @@ pass_spares (suc k) i t long fit =
     let fit' : suc i + k ≤ SLOTS = omega arith in
     let again : (u : Site) → length u.slots ≡ SLOTS → Spares u (pass_from k (suc i) u).site = λ u l. pass_spares k (suc i) u l fit' in
     ⊎_elim
-    (λ (no : is_lost t i ≡ false). subst (λ (w : Tended). Spares t w.site) (sym (pass_skips k i t no)) (again t long))
     (λ (yes : is_lost t i ≡ true).
     let u = site_of (played_at (Care i) t) in
     let s = care_spares t i long small yes in
     subst (λ (w : Tended). Spares t w.site) (sym (pass_cares k i t yes))
     (spares_on t u (pass_from k (suc i) u).site s (again u (s.long ∙ long))))
-    (no_or_yes (is_lost t i))
+    (λ (no : is_lost t i ≡ false). subst (λ (w : Tended). Spares t w.site) (sym (pass_skips k i t no)) (again t long))
+    (cases_Bool (is_lost t i))
 
 all_spares : (t : Site) → length t.slots ≡ SLOTS → Spares t (pass_of t).site
 all_spares t long = pass_spares SLOTS 0 t long (omega arith)
@@ -93,11 +94,11 @@ passes_spare (suc n) t long =
     let s = all_spares t long in
     let again : Spares (pass_of t).site (passes_of n (pass_of t).site).site = passes_spare n (pass_of t).site (s.long ∙ long) in
     ⊎_elim
-    (λ (no : some_bring_on (pass_of t).cares ≡ false). subst (λ (w : Tended). Spares t w.site) (sym (passes_end n t no)) s)
     (λ (yes : some_bring_on (pass_of t).cares ≡ true).
     subst (λ (w : Tended). Spares t w.site) (sym (passes_go n t yes))
     (spares_on t (pass_of t).site (passes_of n (pass_of t).site).site s again))
-    (no_or_yes (some_bring_on (pass_of t).cares))
+    (λ (no : some_bring_on (pass_of t).cares ≡ false). subst (λ (w : Tended). Spares t w.site) (sym (passes_end n t no)) s)
+    (cases_Bool (some_bring_on (pass_of t).cares))
 
 pub repair_touches_lost_only : RepairTouchesLostOnly
 repair_touches_lost_only t long = let s = passes_spare PASSES t long in (s.fences, s.slots)

@@ -11,7 +11,8 @@ use borrow.Author.Tests.{eq-eqb, ne_eqb}
 use lib.Dec.{eqb, ltb}
 use lib.ListN.{length, take, drop, set, length-append, length-set}
 use lib.Seq.{set-get_or, sets-eq, length-sets, drop-append-add, drop-drop, take_at, length-take-le}
-use Rattle.common.specs.Choice.{when◌then◌else◌}
+use Rattle.std.specs.Prelude.{Some, None}
+use Rattle.common.specs.Choice.{when◌then◌else◌, but}
 use Rattle.agent_request.specs.Request.{in_use, free_request}
 use Rattle.agent_request.specs.declared.Request.{Request}
 use Rattle.agent_rules.specs.declared.Answer.TheVariants.{Waiting}
@@ -41,18 +42,21 @@ use Rattle.board_nodes.proofs.Same.{same_site, set_small}
 use Rattle.board_visit_waiting.specs.Waits.{still_ahead, stepped_slot}
 use Rattle.board_visit_waiting.proofs.Waits.{is_its_step, aims_there, waits_visit}
 use Rattle.schedule_bytes.specs.Schedule.{next_of}
+use Rattle.schedule_bytes.specs.declared.Next.{Next}
 use Rattle.schedule_bytes.specs.declared.Next.TheVariants.{Record}
 use Rattle.schedule_bytes.proofs.Bodies.{record_after}
 use Rattle.run_entry.specs.Entry.{entry_of, put_of}
 use Rattle.run_entry.proofs.Stores.{fits}
+use Rattle.run_rules.specs.Endings.{ending_number}
+use Rattle.run_rules.specs.declared.Ending.{Ending}
 use Rattle.run_rules.specs.Halts.{is_end, halted_of, leaves_of}
 use Rattle.run_rules.specs.Run.{Whole, ended, followed, run_of, joined, report_of}
+use Rattle.common.proofs.But.{some_but, none_but}
 use Rattle.run_rules.proofs.Runs.{plays, halts, leaves}
 use Rattle.run_rules.proofs.Wholes.{so_far, whole_at, same_whole, nothing_yet}
 use Rattle.run_turn.specs.Turns.{reported, turn_leaves}
 use Rattle.run_turn.specs.declared.Turned.{Turned}
 use Rattle.run_play.specs.Comes.{Comes}
-use Rattle.run_play.specs.declared.Ran.{Ran}
 
 pub one_more_law :
     (n v : ℕ) (e : List ℕ) (c : AnyCall) (a : Answer) (w : Whole) →
@@ -217,6 +221,22 @@ pub record Turning
   pub inv : Playing t₀ bytes at allowance report₀ t report map place records verbs
   pub here : next_of bytes place ≡ Record c after
   pub free : halted_of (is_end (next_of bytes place)) (eqb records allowance) (ltb (length report - records * 12) 12) ≡ 0
+
+-- which is so where the code reads a record there, and its test finds nothing that stops the run
+pub turning :
+    {t₀ : Site} {bytes : List ℕ} {at allowance : ℕ} {report₀ : List ℕ} {t : Site} {report map : List ℕ} {place records verbs : ℕ}
+    (p : Playing t₀ bytes at allowance report₀ t report map place records verbs) (c : AnyCall) (after : ℕ) (n : Next) →
+    n ≡ next_of bytes place →
+    Record c after ≡ next_of bytes place →
+    None ≡ but 0 (halted_of (is_end n) (eqb records allowance) (ltb (length report - records * 12) 12)) →
+    Turning t₀ bytes at allowance report₀ t report map place records verbs c after
+turning {allowance = allowance} {report = report} {records = records} p c after n e r test =
+    record {
+      inv = p;
+      here = sym r;
+      free =
+          ap (λ (x : Next). halted_of (is_end x) (eqb records allowance) (ltb (length report - records * 12) 12)) (sym e) ∙ none_but 0 _ test;
+    }
 
 module _
     {t₀ : Site} {bytes : List ℕ} {at allowance : ℕ} {report₀ : List ℕ} {t : Site} {report map : List ℕ} {place records verbs : ℕ} {c : AnyCall}
@@ -440,17 +460,15 @@ module _
 
   -- the whole with an ending, as the result has it
   comes :
-      (h : ℕ) (r : Ran) →
-      run_of (allowance - records) (length report₀ - records * 12) bytes place (lent_to cur words) ≡ ended h place (lent_to cur words) →
-      r ≡ record { ending = h; records = records; bytes = place - at; verbs = verbs; board = cur } →
-      Comes b words₀ bytes at allowance report₀ r words report
-  comes h r ends f =
+      (e : Ending) →
+      run_of (allowance - records) (length report₀ - records * 12) bytes place (lent_to cur words) ≡ ended (ending_number e) place (lent_to cur words) →
+      Comes b words₀ bytes at allowance report₀ (record { ending = e; records = records; bytes = place - at; verbs = verbs; board = cur }) words report
+  comes ending ends =
       let front = take (records * 12) report in
-      let e : run_of allowance (length report₀) bytes at (lent_to b words₀) ≡ whole_at h records place verbs (lent_to cur words) front =
+      let e : run_of allowance (length report₀) bytes at (lent_to b words₀) ≡ whole_at (ending_number ending) records place verbs (lent_to cur words) front =
       p.whole ∙ ap (joined (so_far records verbs front)) ends ∙ same_whole (add-zero records) (add-zero verbs) (append-nil front) in
       let long : length front ≡ records * 12 = length-take-le (records * 12) report (omega (arith, p.fit, p.room)) in
-      rw f
-      (record {
+      record {
         ending = sym (ap (λ (w : Whole). w.ending) e);
         records = sym (ap (λ (w : Whole). w.records) e);
         taken = sym (ap (λ (w : Whole). w.place - at) e);
@@ -460,24 +478,31 @@ module _
         fenced_after = sym (ap (λ (w : Whole). w.fenced) e);
         words_after = sym (ap (λ (w : Whole). w.words) e);
         report_after = p.kept ∙ ap (λ (k : ℕ). front ++ drop k report₀) (sym long) ∙ sym (ap (report_of report₀) e);
-      })
+      }
 
   pub halts_here :
-      (h : ℕ) (r : Ran) →
-      halted_of (is_end (next_of bytes place)) (eqb records allowance) (ltb (length report - records * 12) 12) ≡ h →
-      (h ≡ 0 → ⊥) →
-      r ≡ record { ending = h; records = records; bytes = place - at; verbs = verbs; board = cur } →
-      Comes b words₀ bytes at allowance report₀ r words report
-  halts_here h r e ne f =
-      comes h r (halts bytes place (lent_to cur words) (length report₀ - records * 12) (allowance - records) h (test_is h e) ne) f
+      (e : Ending) (n : Next) →
+      n ≡ next_of bytes place →
+      Some (ending_number e) ≡ but 0 (halted_of (is_end n) (eqb records allowance) (ltb (length report - records * 12) 12)) →
+      Comes b words₀ bytes at allowance report₀ (record { ending = e; records = records; bytes = place - at; verbs = verbs; board = cur }) words report
+  halts_here e n stands test =
+      let h = some_but 0 _ (ending_number e) test in
+      let stops : halted_of (is_end (next_of bytes place)) (eqb records allowance) (ltb (length report - records * 12) 12) ≡ ending_number e =
+      ap (λ (x : Next). halted_of (is_end x) (eqb records allowance) (ltb (length report - records * 12) 12)) (sym stands) ∙ sym h.1 in
+      comes e
+      (halts bytes place (lent_to cur words) (length report₀ - records * 12) (allowance - records) (ending_number e) (test_is (ending_number e) stops)
+      (λ z. h.0 (sym h.1 ∙ z)))
 
   pub leaves_here :
-      (h : ℕ) (r : Ran) →
-      ((c : AnyCall) (next : ℕ) → next_of bytes place ≡ Record c next → ⊥) →
-      halted_of (is_end (next_of bytes place)) (eqb records allowance) (ltb (length report - records * 12) 12) ≡ 0 →
-      h ≡ leaves_of (next_of bytes place) →
-      r ≡ record { ending = h; records = records; bytes = place - at; verbs = verbs; board = cur } →
-      Comes b words₀ bytes at allowance report₀ r words report
-  leaves_here h r o e l f =
-      let ends = leaves bytes place (lent_to cur words) (length report₀ - records * 12) (allowance - records) o (test_is 0 e) in
-      comes h r (ends ∙ ap (λ (k : ℕ). ended k place (lent_to cur words)) (sym l)) f
+      (e : Ending) (n : Next) →
+      n ≡ next_of bytes place →
+      None ≡ but 0 (halted_of (is_end n) (eqb records allowance) (ltb (length report - records * 12) 12)) →
+      ((c : AnyCall) (next : ℕ) → n ≡ Record c next → ⊥) →
+      ending_number e ≡ leaves_of n →
+      Comes b words₀ bytes at allowance report₀ (record { ending = e; records = records; bytes = place - at; verbs = verbs; board = cur }) words report
+  leaves_here e n stands test none l =
+      let free : halted_of (is_end (next_of bytes place)) (eqb records allowance) (ltb (length report - records * 12) 12) ≡ 0 =
+      ap (λ (x : Next). halted_of (is_end x) (eqb records allowance) (ltb (length report - records * 12) 12)) (sym stands) ∙ none_but 0 _ test in
+      comes e
+      (leaves bytes place (lent_to cur words) (length report₀ - records * 12) (allowance - records) (λ c next r. none c next (stands ∙ r)) (test_is 0 free) ∙
+      ap (λ (k : ℕ). ended k place (lent_to cur words)) (ap leaves_of (sym stands) ∙ sym l))

@@ -3,6 +3,7 @@ use Rattle.std.specs.Prelude.{ℕ, ◌-◌, ◌≡◌, List, length}
 use Rattle.board_slots.specs.declared.Board.{Board}
 use Rattle.board_nodes.specs.Site.{Site}
 use Rattle.board_nodes.specs.Leaves.{lent_to}
+use Rattle.run_rules.specs.Endings.{ending_number}
 use Rattle.run_rules.specs.Run.{Whole, run_of, report_of}
 use Rattle.run_play.specs.declared.Ran.{Ran}
 
@@ -11,7 +12,7 @@ abbrev pub whole_of : Site → List ℕ → ℕ → ℕ → List ℕ → Whole
 whole_of t bytes at allowance report = run_of allowance (length report) bytes at t
 
 pub record Comes (b : Board) (words bytes : List ℕ) (at allowance : ℕ) (report : List ℕ) (r : Ran) (words' report' : List ℕ) : Type 0 where
-  pub ending : r.ending ≡ (whole_of (lent_to b words) bytes at allowance report).ending
+  pub ending : ending_number r.ending ≡ (whole_of (lent_to b words) bytes at allowance report).ending
   pub records : r.records ≡ (whole_of (lent_to b words) bytes at allowance report).records
   pub taken : r.bytes ≡ (whole_of (lent_to b words) bytes at allowance report).place - at
   pub verbs : r.verbs ≡ (whole_of (lent_to b words) bytes at allowance report).verbs

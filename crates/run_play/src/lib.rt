@@ -12,13 +12,16 @@ ghost use Rattle.run_entry.specs.Entry.{put_of};
 ghost use Rattle.run_play.specs.Comes.{Comes};
 
 use board_call::Call;
+use board_rules::Found;
 use board_slots::Board;
+use run_rules::Ending;
+use run_turn::Turned;
 use schedule_bytes::Next;
 
 // What a run came to.
 #[derive(Clone, Copy)]
 pub struct Ran {
-    pub ending: u8,
+    pub ending: Ending,
     pub records: usize,
     pub bytes: usize,
     pub verbs: usize,
@@ -39,22 +42,10 @@ fn put_waiting(report: &mut [u8], at: usize, n: usize, ahead: u64)
     );
 }
 
-// The parts of what a run came to, put together.
-fn came_to(ending: u8, records: usize, bytes: usize, verbs: usize, board: Board) -> Ran
-    ensures { result ≡ record { ending = ending; records = records; bytes = bytes; verbs = verbs; board = board } }
-{
-    Ran {
-        ending,
-        records,
-        bytes,
-        verbs,
-        board,
-    }
-}
-
 // Plays the schedule from a place on, within an allowance of records and the room of the report. It stays above 40 lines: a function for a part
-// of its loop would take the board and copy it, and one for the two tests ahead costs each step a fifth more instructions.
-#[tactic(auto, using(board_rules::proofs::Visits::aim_small))]
+// of its loop would take the board and copy it, and one for the two tests ahead costs each step a fifth more instructions. Tried: the stores of both
+// ways behind them, once, cost an open a fifth more and a step an eighth (docs/PERFORMANCE.md).
+#[tactic(auto, using(board_rules::proofs::Visits::aim_small, board_visit_waiting::proofs::Waits::stepped_is))]
 pub fn run(
     b: Board,
     words: &mut [u64],
@@ -71,24 +62,22 @@ pub fn run(
     let mut place = at;
     let mut records: usize = 0;
     let mut verbs: usize = 0;
-    loop {
+    // A loop: it counts no index, each record gives the next place.
+    let ending = loop {
         let next = schedule_bytes::next_at(s, place);
         let room = report.len() - records * 12;
-        let stop = run_halts::halted(next, records == allowance, room);
-        if stop != 0 {
-            return came_to(stop, records, place - at, verbs, cur);
+        if let Some(ending) = run_halts::halted(next, records == allowance, room) {
+            break ending;
         }
         let Next::Record(o, after) = next else {
-            return came_to(run_halts::left_by(next), records, place - at, verbs, cur);
+            break run_halts::left_by(next);
         };
         let k = records * 12;
         records += 1;
         place = after;
-        let n = board_visit_waiting::stepped(o);
-        if n < 256 {
+        if let Some(n) = board_visit_waiting::stepped(o) {
             let shut = cur.fenced[cur.nodes[n] as usize];
-            let ahead = board_visit_waiting::still_ahead(shut, cur.slots[n], words);
-            if ahead != 0 {
+            if let Some(ahead) = board_visit_waiting::still_ahead(shut, cur.slots[n], words) {
                 put_waiting(report, k, n, ahead);
                 verbs += 1;
                 continue;
@@ -96,23 +85,36 @@ pub fn run(
         }
         let c = board_gate::reported_as(o);
         let i = board_visit_aim::aim(c, map);
-        let q = cur.slots[i];
+        let q = cur.slots[i]; // read ahead of the node: behind it, each step that goes on waiting takes 5 instructions more
         let node = cur.nodes[i];
         let g = board_gate::watched_node(o, node) as usize;
-        let shut = cur.fenced[g];
+        let found = Found {
+            slot: i,
+            request: q,
+            shut: cur.fenced[g],
+        };
         let Call::Open(record, mode) = c else {
-            let t = run_turn::turn(o, i, shut, q, words, report, k);
-            let request = t.request;
+            let Turned {
+                request,
+                verbs: sent,
+            } = run_turn::turn(o, found, words, report, k);
             cur.slots[i] = request;
             cur.nodes[i] = board_gate::kept_node(o, q, request, node);
-            cur.fenced[g] = board_gate::fence_after(o, shut);
+            cur.fenced[g] = board_gate::fence_after(o, found.shut);
             map = board_map_kept::marked(map, i, q, request);
-            verbs += t.verbs;
+            verbs += sent;
             continue;
         };
-        let opened = run_turn::open_turn(record, mode, i, shut, q, words, report, k);
+        let opened = run_turn::open_turn(record, mode, found, words, report, k);
         cur.slots[i] = opened;
         cur.nodes[i] = board_gate::kept_node(o, q, opened, node);
         map = board_map_kept::marked(map, i, q, opened);
+    };
+    Ran {
+        ending,
+        records,
+        bytes: place - at,
+        verbs,
+        board: cur,
     }
 }

@@ -1,3 +1,4 @@
+pub mod Endings
 pub mod Run
 pub mod Halts
 pub mod Promises

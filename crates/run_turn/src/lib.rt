@@ -10,6 +10,7 @@ ghost use Rattle.run_turn.specs.Turns.{reported, turn_leaves};
 
 use agent_request::Request;
 use board_call::{AnyCall, Call};
+use board_rules::{Found, Seen};
 
 // What a turn leaves to whoever holds the table: the request that its slot gets, and the verbs sent.
 #[derive(Clone, Copy)]
@@ -18,24 +19,13 @@ pub struct Turned {
     pub verbs: usize,
 }
 
-// A call is played on slot i, whose request is q, and its entry is written at a place of the report; `shut` says whether the node that the call
-// looks at is fenced.
-pub fn turn(
-    o: AnyCall,
-    i: usize,
-    shut: bool,
-    q: Request,
-    words: &mut [u64],
-    report: &mut [u8],
-    at: usize,
-) -> Turned
-    ensures handed { result ≡ turn_leaves o (any_visit o i shut q words.old) }
-    ensures left { words.new ≡ (any_visit o i shut q words.old).words }
-    ensures told { report.new ≡ reported report.old at o (any_visit o i shut q words.old) }
+// A call is played on a slot, and its entry is written at a place of the report.
+pub fn turn(o: AnyCall, found: Found, words: &mut [u64], report: &mut [u8], at: usize) -> Turned
+    ensures handed { result ≡ turn_leaves o (any_visit o found.slot found.shut found.request words.old) }
+    ensures left { words.new ≡ (any_visit o found.slot found.shut found.request words.old).words }
+    ensures told { report.new ≡ reported report.old at o (any_visit o found.slot found.shut found.request words.old) }
 {
-    let d = board_visit_any::any_visit(o, i, shut, q, words);
-    let request = d.request;
-    let answer = d.answer;
+    let Seen { request, answer } = board_visit_any::any_visit(o, found, words);
     let c = board_gate::reported_as(o);
     run_entry::put(report, at, board_numbers::tell(c, answer));
     Turned {
@@ -44,24 +34,21 @@ pub fn turn(
     }
 }
 
-// The same of an open by any node, which sends no verb and leaves the words: what its slot gets. It stands apart because there is less to do.
+// The same of an open by any node, which sends no verb and leaves the words: what its slot gets. Tried: with `turn` for opens too an open takes half as
+// many instructions again (docs/PERFORMANCE.md).
 pub fn open_turn(
     record: u64,
     mode: u64,
-    i: usize,
-    shut: bool,
-    q: Request,
+    found: Found,
     words: &[u64],
     report: &mut [u8],
     at: usize,
 ) -> Request
-    ensures handed { result ≡ (any_visit (Base (Open «record» mode)) i shut q words.now).request }
+    ensures handed { result ≡ (any_visit (Base (Open «record» mode)) found.slot found.shut found.request words.now).request }
     ensures told { report.new ≡ reported report.old at (Base (Open «record» mode))
-        (any_visit (Base (Open «record» mode)) i shut q words.now) }
+        (any_visit (Base (Open «record» mode)) found.slot found.shut found.request words.now) }
 {
-    let d = board_visit_any::any_open(record, mode, i, shut, q, words);
-    let request = d.request;
-    let answer = d.answer;
+    let Seen { request, answer } = board_visit_any::any_open(record, mode, found, words);
     run_entry::put(
         report,
         at,

@@ -3,12 +3,14 @@
 #![tactic(auto)]
 
 ghost use Rattle.std.specs.Prelude.{◌≡◌, ◌+◌, ◌*◌, ◌≤◌, length};
+ghost use Rattle.common.specs.Choice.{but};
 ghost use Rattle.schedule_kinds.specs.Kinds.{body_of};
 ghost use Rattle.schedule_bytes.specs.Schedule.{byte_at, call_at, next_of};
 
 use board_call::{AnyCall, Call};
 
-#[derive(Clone, Copy)]
+// No Result: the end is no error, and `let .. else` takes a record out as plainly.
+#[derive(Clone, Copy, PartialEq, Eq, Debug)]
 pub enum Next {
     // the call, and the place after its record
     Record(AnyCall, usize),
@@ -17,78 +19,61 @@ pub enum Next {
     Cut,
 }
 
-// How long the body of a kind is; 0 for an unknown kind.
+// How long the body of a kind is; none for an unknown kind.
 #[tactic(auto, unfolding(schedule_kinds::specs::Kinds::body_of, schedule_kinds::specs::Kinds::widths_of))]
-pub fn body(kind: u8) -> usize
-    ensures { result ≡ body_of kind }
+pub fn body(kind: u8) -> Option<usize>
+    ensures { result ≡ but 0 (body_of kind) }
 {
     match kind {
-        1 => 3,
-        2 => 1,
-        3 => 1,
-        4 => 2,
-        5 => 4,
-        6 => 1,
-        7 => 1,
-        _ => 0,
+        1 => Some(3),
+        2 | 3 | 6 | 7 => Some(1),
+        4 => Some(2),
+        5 => Some(4),
+        _ => None,
     }
 }
 
-fn wide(b: u8) -> u64
-    ensures { result ≡ b }
+// The first two bytes, low first.
+fn pair(fields: &[u8]) -> u64
+    requires { 2 ≤ length fields.now }
+    ensures { result ≡ byte_at fields.now 0 + byte_at fields.now 1 * 256 }
 {
-    b as u64
+    u64::from(u16::from_le_bytes([fields[0], fields[1]]))
 }
 
-// Two bytes, low first.
-fn pair(low: u8, high: u8) -> u64
-    ensures { result ≡ low + high * 256 }
-{
-    low as u64 + high as u64 * 256
-}
-
-// The two bytes at a place.
-fn pair_at(s: &[u8], i: usize) -> u64
-    requires { i + 2 ≤ length s.now }
-    ensures { result ≡ byte_at s.now i + byte_at s.now (i + 1) * 256 }
-{
-    pair(s[i], s[i + 1])
-}
-
-// The call of a kind whose body begins at a place and is all there.
+// The call of a kind whose body stands in front, and is all there.
 #[tactic(auto, using(crate::proofs::Fields::one, crate::proofs::Fields::two, crate::proofs::Fields::open_as, crate::proofs::Fields::seventh), unfolding(schedule_kinds::specs::Kinds::body_of, schedule_kinds::specs::Kinds::widths_of, crate::specs::Schedule::call_at, schedule_kinds::specs::Kinds::call_of, crate::specs::Schedule::numbers_at))]
-fn call_at(kind: u8, s: &[u8], i: usize) -> AnyCall
-    requires inside { i + body_of kind ≤ length s.now }
+fn call_at(kind: u8, fields: &[u8]) -> AnyCall
+    requires inside { body_of kind ≤ length fields.now }
     requires known { body_of kind ≡ 0 → ⊥ }
-    ensures { result ≡ call_at kind s.now i }
+    ensures { result ≡ call_at kind fields.now 0 }
 {
     match kind {
-        1 => AnyCall::Base(Call::Open(pair_at(s, i), wide(s[i + 2]))),
-        2 => AnyCall::Base(Call::Step(wide(s[i]))),
-        3 => AnyCall::Base(Call::Release(wide(s[i]))),
-        4 => AnyCall::Base(Call::Show(pair_at(s, i))),
-        5 => AnyCall::OpenAs(pair_at(s, i), wide(s[i + 2]), s[i + 3]),
-        6 => AnyCall::Fence(s[i]),
-        _ => AnyCall::Care(wide(s[i])),
+        1 => AnyCall::Base(Call::Open(pair(fields), fields[2].into())),
+        2 => AnyCall::Base(Call::Step(fields[0].into())),
+        3 => AnyCall::Base(Call::Release(fields[0].into())),
+        4 => AnyCall::Base(Call::Show(pair(fields))),
+        5 => AnyCall::OpenAs(pair(fields), fields[2].into(), fields[3]),
+        6 => AnyCall::Fence(fields[0]),
+        _ => AnyCall::Care(fields[0].into()),
     }
 }
 
 // What stands at a place, for any bytes and any place.
-#[tactic(auto, unfolding(crate::specs::Schedule::next_of))]
+// Slice and place: `Reader` is the struct of both, and a run keeps its place itself (docs/DECISIONS.md, 32).
+#[tactic(auto, using(crate::proofs::Fields::call_behind), unfolding(crate::specs::Schedule::next_of))]
 pub fn next_at(s: &[u8], at: usize) -> Next
     ensures { result ≡ next_of s.now at }
 {
-    if s.len() <= at {
+    let Some(&kind) = s.get(at) else {
         return Next::End;
-    }
-    let kind = s[at];
-    let n = body(kind);
-    if n == 0 {
+    };
+    let Some(n) = body(kind) else {
         return Next::Unknown;
-    }
-    let i = at + 1;
-    if s.len() - i < n {
+    };
+    let fields = &s[at + 1..];
+    if fields.len() < n {
         return Next::Cut;
     }
-    Next::Record(call_at(kind, s, i), i + n)
+    Next::Record(call_at(kind, fields), at + 1 + n)
 }

@@ -3,7 +3,8 @@
 #![tactic(auto)]
 
 // A call in plain numbers: its kind, and the kind's numbers in their order, 0 where it has fewer than three.
-#[derive(Clone, Copy)]
+// A number for the kind and no enum, three fields and no array: a caller in C gives any kind, and `numbers_of` names the fields.
+#[derive(Clone, Copy, PartialEq, Eq, Debug)]
 pub struct Parts {
     pub kind: u8,
     pub first: u64,

@@ -6,8 +6,8 @@
 use mathlib.Core.Path.{refl}
 use Rattle.common.specs.Determined.{Determined, DeterminedOf, Says}
 use Rattle.common.proofs.OnlyOne.{only_one}
-use Rattle.schedule_reader.specs.contracts.new as new
-use Rattle.schedule_reader.specs.contracts.next as next
+use Rattle.schedule_reader.specs.contracts.Reader.new as new
+use Rattle.schedule_reader.specs.contracts.Reader.next as next
 use Rattle.schedule_reader.proofs.first.Kinds as first-kinds
 use Rattle.schedule_reader.proofs.first.Reads as first_reads
 

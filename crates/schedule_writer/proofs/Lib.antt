@@ -1,3 +1,2 @@
-pub mod Turns
-pub mod Stores
+pub mod Fields
 pub mod Determined

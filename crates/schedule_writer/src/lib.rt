@@ -3,114 +3,123 @@
 // `schedule_parts`, and knows nothing of boards: a call that the board would refuse is written like any other.
 #![tactic(auto)]
 
-ghost use Rattle.std.specs.Prelude.{◌≡◌, ◌+◌, ◌≤◌, ◌^◌, ◌∷◌, [], leb, length};
-ghost use Rattle.std.proofs.lemmas.List.Edits.{sets};
+ghost use Rattle.std.specs.Prelude.{◌≡◌, ◌≤◌, ◌^◌, leb, length};
 ghost use Rattle.schedule_kinds.specs.Kinds.{widths_of, numbers_of};
 ghost use Rattle.schedule_writing.specs.Writing.{bytes_of, record_of, length_of, too_large, writing_of, written_of, buffer_of};
 ghost use Rattle.schedule_writing.specs.Boundary.{placed_of};
+ghost use Rattle.schedule_writer.specs.Answers.{refusal_of, told_at, not_written_of};
 
 use board_call::AnyCall;
 use schedule_kinds::Parts;
-use schedule_writing::{Placed, Written};
+use schedule_writing::{NotWritten, Placed};
 
-// How many bytes each field of a kind takes, 0 where there is none.
-#[derive(Clone, Copy)]
-struct Widths {
-    first: usize,
-    second: usize,
-    third: usize,
+// Why a record was not written, with its number in rule 5.1.
+#[derive(Clone, Copy, PartialEq, Eq, Debug)]
+enum Refused {
+    NoKind = 8,
+    TooLarge = 18,
+    NoRoom = 12,
 }
 
-fn wide(first: usize, second: usize, third: usize) -> Widths
-    ensures { (result.first ∷ result.second ∷ result.third ∷ []) ≡ (first ∷ second ∷ third ∷ []) }
-{
-    Widths {
-        first,
-        second,
-        third,
+// The number of a refusal.
+impl From<Refused> for u8 {
+    ghost from_gives = { λ refused number. number ≡ refusal_of refused };
+
+    fn from(refused: Refused) -> u8 {
+        refused as u8
     }
 }
 
-// The widths of a kind's fields: a kind is a line.
+// A call's kind is always known.
+impl From<Refused> for NotWritten {
+    ghost from_gives = { λ refused told. told ≡ not_written_of refused };
+
+    fn from(refused: Refused) -> NotWritten {
+        match refused {
+            Refused::TooLarge => NotWritten::TooLarge,
+            Refused::NoKind | Refused::NoRoom => NotWritten::NoRoom,
+        }
+    }
+}
+
+// How many bytes each of a kind's three fields takes, 0 where there is none: a kind is a line.
 #[tactic(auto, unfolding(schedule_kinds::specs::Kinds::widths_of))]
-fn widths_of(kind: u8) -> Widths
-    ensures { (result.first ∷ result.second ∷ result.third ∷ []) ≡ widths_of kind }
+fn widths_of(kind: u8) -> [usize; 3]
+    ensures { result ≡ widths_of kind }
 {
     match kind {
-        1 => wide(2, 1, 0),
-        2 => wide(1, 0, 0),
-        3 => wide(1, 0, 0),
-        4 => wide(2, 0, 0),
-        5 => wide(2, 1, 1),
-        6 => wide(1, 0, 0),
-        7 => wide(1, 0, 0),
-        _ => wide(0, 0, 0),
+        1 => [2, 1, 0],
+        2 | 3 | 6 | 7 => [1, 0, 0],
+        4 => [2, 0, 0],
+        5 => [2, 1, 1],
+        _ => [0, 0, 0],
     }
 }
 
-// Whether a number is too large for so many bytes: something is left of it once they are taken away.
+// Whether a number is too large for so many bytes: it reaches the least that they do not hold, which for 8 bytes no u64 does.
 fn exceeds(n: u64, width: usize) -> bool
+    requires { width ≤ 8 }
     ensures { result ≡ leb (256 ^ width) n }
 {
-    let mut rest = n;
-    let mut left = width;
-    while 0 < left {
-        rest = rest / 256;
-        left = left - 1;
-    }
-    1 <= rest
-}
-
-// Stores a number in so many bytes at a place, low byte first.
-fn store(buffer: &mut [u8], at: usize, width: usize, n: u64)
-    requires { at + width ≤ length buffer.old }
-    ensures { buffer.new ≡ sets buffer.old at (bytes_of width n) }
-{
-    let mut place = at;
-    let mut rest = n;
-    let mut left = width;
-    while 0 < left {
-        buffer[place] = (rest % 256) as u8;
-        rest = rest / 256;
-        place = place + 1;
-        left = left - 1;
-    }
+    256u64
+        .checked_pow(width as u32)
+        .is_some_and(|least| least <= n)
 }
 
 // Whether some number is too large for its field.
 fn too_large(p: Parts) -> bool
     ensures { result ≡ too_large (widths_of p.kind) (numbers_of p) }
 {
-    let w = widths_of(p.kind);
-    if exceeds(p.first, w.first) {
-        return true;
-    }
-    if exceeds(p.second, w.second) {
-        return true;
-    }
-    exceeds(p.third, w.third)
+    let [first, second, third] = widths_of(p.kind);
+    exceeds(p.first, first) || exceeds(p.second, second) || exceeds(p.third, third)
 }
 
-// Stores a record, for which there is room: its kind, then its numbers.
-fn store_record(buffer: &mut [u8], at: usize, p: Parts)
-    requires { at + length_of p ≤ length buffer.old }
-    ensures { buffer.new ≡ sets buffer.old at (record_of p) }
+// Stores a number in a field, low byte first. The archive for C is to need nothing of the C library: a copy of a length that only the run knows
+// calls `memcpy`, and so does this loop `memset` where the compiler sees by a caller that only zeros are left.
+#[inline(never)]
+fn store(field: &mut [u8], n: u64)
+    ensures { field.new ≡ bytes_of (length field.old) n }
 {
-    let w = widths_of(p.kind);
-    let first = at + 1;
-    let second = first + w.first;
-    let third = second + w.second;
-    buffer[at] = p.kind;
-    store(buffer, first, w.first, p.first);
-    store(buffer, second, w.second, p.second);
-    store(buffer, third, w.third, p.third);
+    let mut rest = n;
+    for byte in field.iter_mut() {
+        *byte = (rest % 256) as u8;
+        rest /= 256;
+    }
 }
 
-// What became of it: the number, and the next free place.
-fn placed(number: u8, place: usize) -> Placed
-    ensures { (result.number ≡ number) × (result.place ≡ place) }
+// Stores a record where there is just room for it: its kind, then its numbers.
+fn store_record(bytes: &mut [u8], p: Parts)
+    requires { length bytes.old ≡ length_of p }
+    ensures { bytes.new ≡ record_of p }
 {
-    Placed { number, place }
+    let [first, second, _] = widths_of(p.kind);
+    let (kind, fields) = bytes.split_at_mut(1);
+    let (one, fields) = fields.split_at_mut(first);
+    let (two, three) = fields.split_at_mut(second);
+    kind[0] = p.kind;
+    store(one, p.first);
+    store(two, p.second);
+    store(three, p.third);
+}
+
+// Writes a kind with its numbers at a place: the next free place, or why it was refused, and then the buffer is as it was.
+// Buffer and place, as a caller in C gives them and gets the next place.
+#[tactic(auto, unfolding(schedule_writing::specs::Writing::writing_of, schedule_writing::specs::Writing::length_of))]
+fn lay(buffer: &mut [u8], at: usize, p: Parts) -> Result<usize, Refused>
+    ensures told { told_at at result ≡ placed_of (writing_of buffer.old at p) }
+    ensures written { buffer.new ≡ (writing_of buffer.old at p).bytes }
+{
+    let body = schedule_bytes::body(p.kind).ok_or(Refused::NoKind)?;
+    if too_large(p) {
+        return Err(Refused::TooLarge);
+    }
+    let room = buffer.len().checked_sub(at).ok_or(Refused::NoRoom)?;
+    if room <= body {
+        return Err(Refused::NoRoom);
+    }
+    let end = at + 1 + body;
+    store_record(&mut buffer[at..end], p);
+    Ok(end)
 }
 
 // Writes a kind with its numbers at a place: 8 where there is no such kind, 18 where a number does not fit its field, 12 where the record
@@ -118,34 +127,18 @@ fn placed(number: u8, place: usize) -> Placed
 pub fn put(buffer: &mut [u8], at: usize, p: Parts) -> Placed
     ensures { (result ≡ placed_of (writing_of buffer.old at p)) × (buffer.new ≡ (writing_of buffer.old at p).bytes) }
 {
-    let body = schedule_bytes::body(p.kind);
-    if body == 0 {
-        return placed(8, at);
+    match lay(buffer, at, p) {
+        Ok(place) => Placed { number: 0, place },
+        Err(refused) => Placed {
+            number: refused.into(),
+            place: at,
+        },
     }
-    if too_large(p) {
-        return placed(18, at);
-    }
-    let room = buffer.len();
-    if room < at {
-        return placed(12, at);
-    }
-    if room - at <= body {
-        return placed(12, at);
-    }
-    store_record(buffer, at, p);
-    placed(0, at + 1 + body)
 }
 
 // Writes a call at a place: the next free place, or why it was refused, and then buffer and place are as they were.
-pub fn write(buffer: &mut [u8], at: usize, call: AnyCall) -> Written
+pub fn write(buffer: &mut [u8], at: usize, call: AnyCall) -> Result<usize, NotWritten>
     ensures { (result ≡ written_of buffer.old at call) × (buffer.new ≡ buffer_of buffer.old at call) }
 {
-    let told = put(buffer, at, schedule_parts::parts_of(call));
-    let number = told.number;
-    let place = told.place;
-    match number {
-        0 => Written::Next(place),
-        18 => Written::TooLarge,
-        _ => Written::NoRoom,
-    }
+    Ok(lay(buffer, at, schedule_parts::parts_of(call))?)
 }

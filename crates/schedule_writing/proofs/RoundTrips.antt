@@ -19,10 +19,10 @@ use Rattle.schedule_kinds.proofs.EachKind.{call_is_its_parts, call_is_known, par
 use Rattle.schedule_bytes.specs.Schedule.{next_of}
 use Rattle.schedule_bytes.specs.declared.Next as reading
 use Rattle.schedule_bytes.specs.declared.Next.TheVariants.{Record, End, Unknown, Cut}
-use Rattle.schedule_writing.specs.Writing.{record_of, length_of, too_large, Writing, refused, writing_of, became_of, written_of, buffer_of, number_of}
+use Rattle.schedule_writing.specs.Writing.{Written, record_of, length_of, too_large, Writing, refused, writing_of, became_of, written_of, buffer_of, number_of}
 use Rattle.schedule_writing.specs.Boundary.{placed_of, standing_of, stands_as}
-use Rattle.schedule_writing.specs.declared.Written.{Written}
-use Rattle.schedule_writing.specs.declared.Written.TheVariants.{Next, TooLarge, NoRoom}
+use Rattle.schedule_writing.specs.declared.NotWritten.TheVariants.{TooLarge, NoRoom}
+use Rattle.std.specs.Prelude.{Ok, Err}
 use Rattle.schedule_writing.specs.declared.Standing.{Standing}
 use Rattle.schedule_writing.specs.Promises.{Bytes, WrittenIsRead, ReadIsWritten, ReadIsItsRecord, FitsIts, TooLargeExactly, NoRoomExactly, WrittenExactly, RefusedLeavesAll, OutsideStays, WrittenLeavesTheRest, NumbersAreRead, NumbersAreWritten, RefusedStays}
 use Rattle.schedule_writing.proofs.Numbers.{AllBytes, first_fits}
@@ -49,14 +49,14 @@ pub record Accepted (s : List ℕ) (at n : ℕ) (c : AnyCall) : Type 0 where
 clash : {A : Type 0} (w x y : Written) → w ≡ x → w ≡ y → (number_of x ≡ number_of y → ⊥) → A
 clash w x y e f apart = absurd (apart (ap number_of (sym e ∙ f)))
 
-pub accepted : (s : List ℕ) (at n : ℕ) (c : AnyCall) → written_of s at c ≡ Next n → Accepted s at n c
+pub accepted : (s : List ℕ) (at n : ℕ) (c : AnyCall) → written_of s at c ≡ Ok n → Accepted s at n c
 accepted s at n c e =
     ⊎_elim
-    (λ l. clash (written_of s at c) TooLarge (Next n) (ap became_of l.1) e (λ z. omega arith))
+    (λ l. clash (written_of s at c) (Err TooLarge) (Ok n) (ap became_of l.1) e (λ z. omega arith))
     (⊎_elim
-    (λ r. clash (written_of s at c) NoRoom (Next n) (ap became_of r.2) e (λ z. omega arith))
+    (λ r. clash (written_of s at c) (Err NoRoom) (Ok n) (ap became_of r.2) e (λ z. omega arith))
     (λ d.
-    let told : Next (at + length_of (parts_of c)) ≡ Next n = sym (ap became_of d.2) ∙ e in
+    let told : Ok (at + length_of (parts_of c)) ≡ Ok n = sym (ap became_of d.2) ∙ e in
     record { fit = d.0; room = d.1; place = cc; bytes = ap (λ (w : Writing). w.bytes) d.2 }))
     (way s at (parts_of c) (call_is_known c))
 
@@ -89,7 +89,7 @@ pub read_is_written : ReadIsWritten
 read_is_written s at n c b e =
     let t = stood s at c n (all_bytes s b) e in
     let g = again s at n c t in
-    (ap became_of g.0 ∙ ap Next (sym t.place), g.1)
+    (ap became_of g.0 ∙ ap Ok (sym t.place), g.1)
 
 pub read_is_its_record : ReadIsItsRecord
 read_is_its_record s at n c b e = (stood s at c n (all_bytes s b) e).bytes
@@ -122,8 +122,8 @@ too_large_exactly s at c = (
       ⊎_elim
       (λ l. let fit = its_fit c f in let one : ◌≡◌ {A = ℕ} 0 1 = cc in omega arith)
       (⊎_elim
-      (λ r. clash (written_of s at c) NoRoom TooLarge (ap became_of r.2) e (λ z. omega arith))
-      (λ d. clash (written_of s at c) (Next (at + length_of (parts_of c))) TooLarge (ap became_of d.2) e (λ z. omega arith)))
+      (λ r. clash (written_of s at c) (Err NoRoom) (Err TooLarge) (ap became_of r.2) e (λ z. omega arith))
+      (λ d. clash (written_of s at c) (Ok (at + length_of (parts_of c))) (Err TooLarge) (ap became_of d.2) e (λ z. omega arith)))
       (way s at (parts_of c) (call_is_known c)),
   λ large.
       ⊎_elim
@@ -136,10 +136,10 @@ pub no_room_exactly : NoRoomExactly
 no_room_exactly s at c = (
   λ e.
       ⊎_elim
-      (λ l. clash (written_of s at c) TooLarge NoRoom (ap became_of l.1) e (λ z. omega arith))
+      (λ l. clash (written_of s at c) (Err TooLarge) (Err NoRoom) (ap became_of l.1) e (λ z. omega arith))
       (⊎_elim
       (λ r. (fits_its c r.0, r.1))
-      (λ d. clash (written_of s at c) (Next (at + length_of (parts_of c))) NoRoom (ap became_of d.2) e (λ z. omega arith)))
+      (λ d. clash (written_of s at c) (Ok (at + length_of (parts_of c))) (Err NoRoom) (ap became_of d.2) e (λ z. omega arith)))
       (way s at (parts_of c) (call_is_known c)),
   λ h.
       ⊎_elim
@@ -151,7 +151,7 @@ no_room_exactly s at c = (
 pub written_exactly : WrittenExactly
 written_exactly s at n c = (
   λ e. let a = accepted s at n c e in (fits_its c a.fit, a.room, a.place),
-  λ h. ap became_of (accepts s at (parts_of c) (call_is_known c) (its_fit c h.0) h.1) ∙ ap Next (sym h.2),
+  λ h. ap became_of (accepts s at (parts_of c) (call_is_known c) (its_fit c h.0) h.1) ∙ ap Ok (sym h.2),
 )
 
 -- ---- what stays

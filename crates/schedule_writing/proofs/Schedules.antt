@@ -16,7 +16,7 @@ use Rattle.schedule_bytes.specs.declared.Next as reading
 use Rattle.schedule_bytes.specs.declared.Next.TheVariants.{Record, End, Unknown, Cut}
 use Rattle.schedule_bytes.proofs.Stands.{end_stands_exactly}
 use Rattle.schedule_writing.specs.Writing.{record_of, length_of, Writing, became_of, buffer_of}
-use Rattle.schedule_writing.specs.declared.Written.TheVariants.{Next}
+use Rattle.std.specs.Prelude.{Ok}
 use Rattle.schedule_writing.specs.Promises.{Leads, ScheduleIsRead, ScheduleIsWritten}
 use Rattle.schedule_writing.proofs.Numbers.{AllBytes}
 use Rattle.schedule_writing.proofs.Records.{stood, stands, length_record, up_to}
@@ -102,7 +102,7 @@ one_more_law k s b rest (Record c n) t at x long e h end =
     let t_front : take n (buffer_of t at c) ≡ take at t ++ record_of p =
     ap (take n) bytes ∙ ap (λ (i : ℕ). take i (sets t at (record_of p))) r.place ∙ up_to t at p room in
     let same : take n (buffer_of t at c) ≡ take n s = t_front ∙ ap (λ (l : List ℕ). l ++ record_of p) e ∙ sym s_front in
-    (n, ap became_of w ∙ ap Next (sym r.place), rest (buffer_of t at c) n (ap length bytes ∙ length-sets t at (record_of p) ∙ long) same r.room end)
+    (n, ap became_of w ∙ ap Ok (sym r.place), rest (buffer_of t at c) n (ap length bytes ∙ length-sets t at (record_of p) ∙ long) same r.room end)
 one_more_law k s b rest End t at x long e h end = finished s t at long e h end
 one_more_law k s b rest Unknown t at x long e h end = finished s t at long e h end
 one_more_law k s b rest Cut t at x long e h end = finished s t at long e h end

@@ -1,5 +1,5 @@
 -- What is promised of writing a schedule and reading it. Statements only: proofs/ has why each holds.
-use Rattle.std.specs.Prelude.{ℕ, ◌+◌, ◌<◌, ◌≤◌, ◌^◌, ◌≡◌, ◌↔◌, List, [], ◌∷◌, ◌++◌, length, get_or, drop}
+use Rattle.std.specs.Prelude.{ℕ, ◌+◌, ◌<◌, ◌≤◌, ◌^◌, ◌≡◌, ◌↔◌, List, [], ◌∷◌, ◌++◌, length, get_or, drop, Ok, Err}
 use Rattle.board_call.specs.declared.AnyCall.{AnyCall}
 use Rattle.schedule_kinds.specs.Kinds.{widths_of, numbers_of, parts_of}
 use Rattle.schedule_kinds.specs.declared.Parts.{Parts}
@@ -7,7 +7,7 @@ use Rattle.schedule_bytes.specs.Schedule.{byte_at, next_of, calls_from, place_be
 use Rattle.schedule_bytes.specs.declared.Next.TheVariants.{Record, End}
 use Rattle.schedule_writing.specs.Writing.{record_of, length_of, writing_of, written_of, buffer_of, number_of}
 use Rattle.schedule_writing.specs.Boundary.{placed_of, standing_at, stands_as}
-use Rattle.schedule_writing.specs.declared.Written.TheVariants.{Next, TooLarge, NoRoom}
+use Rattle.schedule_writing.specs.declared.NotWritten.TheVariants.{TooLarge, NoRoom}
 
 -- Every byte is below 256: every slice of bytes is such a list.
 abbrev pub Bytes : List ℕ → Type 0
@@ -15,7 +15,7 @@ Bytes s = (i : ℕ) → i < length s → byte_at s i < 256
 
 -- What was written is read back: at that place stands the same call, with the same next place. For every buffer, place and call.
 abbrev pub WrittenIsRead : Type 0
-WrittenIsRead = (s : List ℕ) (at n : ℕ) (c : AnyCall) → written_of s at c ≡ Next n → next_of (buffer_of s at c) at ≡ Record c n
+WrittenIsRead = (s : List ℕ) (at n : ℕ) (c : AnyCall) → written_of s at c ≡ Ok n → next_of (buffer_of s at c) at ≡ Record c n
 
 -- Writing what was read gives the same bytes: the call that stands at a place, written there, leaves every byte as it is, with the same next
 -- place;
@@ -24,7 +24,7 @@ ReadIsWritten =
     (s : List ℕ) (at n : ℕ) (c : AnyCall) →
     Bytes s →
     next_of s at ≡ Record c n →
-    (written_of s at c ≡ Next n) × (buffer_of s at c ≡ s)
+    (written_of s at c ≡ Ok n) × (buffer_of s at c ≡ s)
 
 -- and wherever it is written, those are its bytes: what stands in the schedule from that place on is the call's record and then what follows.
 abbrev pub ReadIsItsRecord : Type 0
@@ -40,16 +40,16 @@ abbrev pub FitsIts : AnyCall → Type 0
 FitsIts c = (i : ℕ) → i < 3 → get_or (numbers_of (parts_of c)) i 0 < 256 ^ get_or (widths_of (parts_of c).kind) i 0
 
 abbrev pub TooLargeExactly : Type 0
-TooLargeExactly = (s : List ℕ) (at : ℕ) (c : AnyCall) → (written_of s at c ≡ TooLarge) ↔ (FitsIts c → ⊥)
+TooLargeExactly = (s : List ℕ) (at : ℕ) (c : AnyCall) → (written_of s at c ≡ Err TooLarge) ↔ (FitsIts c → ⊥)
 
 abbrev pub NoRoomExactly : Type 0
 NoRoomExactly =
-    (s : List ℕ) (at : ℕ) (c : AnyCall) → (written_of s at c ≡ NoRoom) ↔ (FitsIts c × (length s < at + length_of (parts_of c)))
+    (s : List ℕ) (at : ℕ) (c : AnyCall) → (written_of s at c ≡ Err NoRoom) ↔ (FitsIts c × (length s < at + length_of (parts_of c)))
 
 abbrev pub WrittenExactly : Type 0
 WrittenExactly =
     (s : List ℕ) (at n : ℕ) (c : AnyCall) →
-    (written_of s at c ≡ Next n) ↔ (FitsIts c × (at + length_of (parts_of c) ≤ length s) × (n ≡ at + length_of (parts_of c)))
+    (written_of s at c ≡ Ok n) ↔ (FitsIts c × (at + length_of (parts_of c) ≤ length s) × (n ≡ at + length_of (parts_of c)))
 
 -- A refused call leaves every byte. A written one leaves as many bytes, and each outside its record.
 abbrev pub RefusedLeavesAll : Type 0
@@ -61,12 +61,12 @@ pub record OutsideStays (s : List ℕ) (at n : ℕ) (s' : List ℕ) : Type 0 whe
   pub behind : (i : ℕ) → n ≤ i → byte_at s' i ≡ byte_at s i
 
 abbrev pub WrittenLeavesTheRest : Type 0
-WrittenLeavesTheRest = (s : List ℕ) (at n : ℕ) (c : AnyCall) → written_of s at c ≡ Next n → OutsideStays s at n (buffer_of s at c)
+WrittenLeavesTheRest = (s : List ℕ) (at n : ℕ) (c : AnyCall) → written_of s at c ≡ Ok n → OutsideStays s at n (buffer_of s at c)
 
 -- Calls written one after the other, each at the place that the last one gave: they lead from a buffer and a place to a buffer and a place.
 abbrev pub Leads : List AnyCall → List ℕ → ℕ → List ℕ → ℕ → Type 0
 Leads [] s at s' at' = (s' ≡ s) × (at' ≡ at)
-Leads (c ∷ cs) s at s' at' = (n : ℕ) × (written_of s at c ≡ Next n) × Leads cs (buffer_of s at c) n s' at'
+Leads (c ∷ cs) s at s' at' = (n : ℕ) × (written_of s at c ≡ Ok n) × Leads cs (buffer_of s at c) n s' at'
 
 -- A list of calls written so is read as that list, from the first place to the last; and where the last place is the buffer's end, the end
 -- stands there, so that the whole buffer from the first place on is their schedule.

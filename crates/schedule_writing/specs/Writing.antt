@@ -1,12 +1,12 @@
 -- A call as the bytes of its record, and the record written at a place of a lent buffer.
-use Rattle.std.specs.Prelude.{ℕ, zero, suc, ◌+◌, ◌/◌, ◌%◌, ◌^◌, Bool, true, false, List, [], ◌∷◌, ◌++◌, eqb, ltb, leb, length}
+use Rattle.std.specs.Prelude.{ℕ, zero, suc, ◌+◌, ◌/◌, ◌%◌, ◌^◌, Bool, true, false, List, [], ◌∷◌, ◌++◌, eqb, ltb, leb, length, Result, Ok, Err}
 use Rattle.std.proofs.lemmas.List.Edits.{sets}
 use Rattle.common.specs.Choice.{when◌then◌else◌}
 use Rattle.board_call.specs.declared.AnyCall.{AnyCall}
 use Rattle.schedule_kinds.specs.Kinds.{widths_of, body_of, numbers_of, parts_of}
 use Rattle.schedule_kinds.specs.declared.Parts.{Parts}
-use Rattle.schedule_writing.specs.declared.Written.{Written}
-use Rattle.schedule_writing.specs.declared.Written.TheVariants.{Next, TooLarge, NoRoom}
+use Rattle.schedule_writing.specs.declared.NotWritten.{NotWritten}
+use Rattle.schedule_writing.specs.declared.NotWritten.TheVariants.{TooLarge, NoRoom}
 
 -- Rule 6.4: A number in so many bytes, low first,
 unfoldable pub bytes_of : ℕ → ℕ → List ℕ
@@ -52,11 +52,15 @@ writing_of s at p =
     when ltb (length s) (at + length_of p) then refused 12 s at else
     record { number = 0; place = at + length_of p; bytes = sets s at (record_of p) }
 
+-- Rule 6.4: What became of a call that was to be written: the next free place, or why it was refused.
+abbrev pub Written : Type 0
+Written = Result ℕ NotWritten
+
 -- Rule 6.4: What became of it, by its number. (A call's kind is always known.)
 abbrev pub became_of : Writing → Written
 became_of w =
-    when eqb w.number 0 then Next w.place else
-    when eqb w.number 18 then TooLarge else NoRoom
+    when eqb w.number 0 then Ok w.place else
+    when eqb w.number 18 then Err TooLarge else Err NoRoom
 
 -- Rule 6.4: A call, written: what became of it,
 abbrev pub written_of : List ℕ → ℕ → AnyCall → Written
@@ -68,6 +72,6 @@ buffer_of s at c = (writing_of s at (parts_of c)).bytes
 
 -- Rule 5.1: The number of each answer.
 abbrev pub number_of : Written → ℕ
-number_of (Next place) = 0
-number_of TooLarge = 18
-number_of NoRoom = 12
+number_of (Ok place) = 0
+number_of (Err TooLarge) = 18
+number_of (Err NoRoom) = 12

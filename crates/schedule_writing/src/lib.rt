@@ -2,26 +2,26 @@
 // `schedule_c` hands it to callers in C.
 #![tactic(auto)]
 
-// What became of a call that was to be written: the next free place, or why it was refused.
-#[derive(Clone, Copy)]
-pub enum Written {
-    Next(usize),
+// Why a call was not written.
+#[derive(Clone, Copy, PartialEq, Eq, Debug)]
+pub enum NotWritten {
     TooLarge,
     NoRoom,
 }
 
-// The same in numbers: the number of rule 5.1, and the next free place, which is the place given where the call was refused.
+// What became of a record that was to be written, in numbers, as a caller in C reads them: the number of rule 5.1, and the next free place,
+// which is the place given where the record was refused.
 #[repr(C)]
-#[derive(Clone, Copy)]
+#[derive(Clone, Copy, PartialEq, Eq, Debug)]
 pub struct Placed {
     pub number: u8,
     pub place: usize,
 }
 
-// What stands at a place, in numbers: the number of rule 5.1; the record's kind and numbers, and the place behind it. Where no record stands
-// the kind and its numbers are 0, and the place is the one asked for.
+// What stands at a place, in numbers, as a caller in C reads them: the number of rule 5.1; the record's kind and numbers, and the place behind
+// it. Where no record stands the kind and its numbers are 0, and the place is the one asked for.
 #[repr(C)]
-#[derive(Clone, Copy)]
+#[derive(Clone, Copy, PartialEq, Eq, Debug)]
 pub struct Standing {
     pub number: u8,
     pub kind: u8,

@@ -1,46 +1,31 @@
--- Each public function of `word_counter`, and why its contract determines it: the contract equates the outcome with a definition, and two
--- things that equal a third are equal (`only_one`, the single law). A function that is missing here is a defect.
+-- Each public function of `word_counter`, and why its contract determines it, for every kind of counter: the contract equates the outcome
+-- with a definition, and two things that equal a third are equal (`only_one`, the single law). A function that is missing here is a defect.
 -- Assumes nothing.
 use mathlib.Core.Path.{refl}
 use Rattle.common.specs.Determined.{Determined}
 use Rattle.common.proofs.OnlyOne.{only_one}
-use Rattle.word_counter.proofs.Exclusive.exceeds.Kinds as exclusive-exceeds-kinds
-use Rattle.word_counter.proofs.Exclusive.exceeds.Reads as exclusive-exceeds-reads
-use Rattle.word_counter.proofs.Exclusive.reaches.Kinds as exclusive-reaches-kinds
-use Rattle.word_counter.proofs.Exclusive.reaches.Reads as exclusive-reaches-reads
-use Rattle.word_counter.proofs.Exclusive.equals.Kinds as exclusive-equals-kinds
-use Rattle.word_counter.proofs.Exclusive.equals.Reads as exclusive-equals-reads
-use Rattle.word_counter.proofs.Exclusive.beyond.Kinds as exclusive-beyond-kinds
-use Rattle.word_counter.proofs.Exclusive.beyond.Reads as exclusive-beyond-reads
-use Rattle.word_counter.proofs.Shared.exceeds.Kinds as shared-exceeds-kinds
-use Rattle.word_counter.proofs.Shared.exceeds.Reads as shared-exceeds-reads
-use Rattle.word_counter.proofs.Shared.reaches.Kinds as shared-reaches-kinds
-use Rattle.word_counter.proofs.Shared.reaches.Reads as shared-reaches-reads
-use Rattle.word_counter.proofs.Shared.equals.Kinds as shared-equals-kinds
-use Rattle.word_counter.proofs.Shared.equals.Reads as shared-equals-reads
-use Rattle.word_counter.proofs.Shared.beyond.Kinds as shared-beyond-kinds
-use Rattle.word_counter.proofs.Shared.beyond.Reads as shared-beyond-reads
+use Rattle.word_counter.proofs.Counting.number.Kinds as number-kinds
+use Rattle.word_counter.proofs.Counting.number.Reads as number-reads
+use Rattle.word_counter.proofs.Counting.exceeds.Kinds as exceeds-kinds
+use Rattle.word_counter.proofs.Counting.exceeds.Reads as exceeds-reads
+use Rattle.word_counter.proofs.Counting.reaches.Kinds as reaches-kinds
+use Rattle.word_counter.proofs.Counting.reaches.Reads as reaches-reads
+use Rattle.word_counter.proofs.Counting.equals.Kinds as equals-kinds
+use Rattle.word_counter.proofs.Counting.equals.Reads as equals-reads
+use Rattle.word_counter.proofs.Counting.beyond.Kinds as beyond-kinds
+use Rattle.word_counter.proofs.Counting.beyond.Reads as beyond-reads
 
-exclusive_exceeds_determined : Determined 0 exclusive-exceeds-kinds.ps exclusive-exceeds-kinds.r exclusive-exceeds-reads.Post
-exclusive_exceeds_determined κs a z z' ws ws' p q = (only_one p q, refl)
+number_determined : (t l c g d h e : _) → Determined 1 (number-kinds.ps t l c) (number-kinds.r t l c) (number-reads.Post t l c g d h e)
+number_determined t l c g d h e κs a z z' ws ws' p q = (only_one p q, refl)
 
-exclusive_reaches_determined : Determined 0 exclusive-reaches-kinds.ps exclusive-reaches-kinds.r exclusive-reaches-reads.Post
-exclusive_reaches_determined κs a z z' ws ws' p q = (only_one p q, refl)
+exceeds_determined : (t l c g d h e : _) → Determined 1 (exceeds-kinds.ps t l c) (exceeds-kinds.r t l c) (exceeds-reads.Post t l c g d h e)
+exceeds_determined t l c g d h e κs a z z' ws ws' p q = (only_one p q, refl)
 
-exclusive_equals_determined : Determined 0 exclusive-equals-kinds.ps exclusive-equals-kinds.r exclusive-equals-reads.Post
-exclusive_equals_determined κs a z z' ws ws' p q = (only_one p q, refl)
+reaches_determined : (t l c g d h e : _) → Determined 1 (reaches-kinds.ps t l c) (reaches-kinds.r t l c) (reaches-reads.Post t l c g d h e)
+reaches_determined t l c g d h e κs a z z' ws ws' p q = (only_one p q, refl)
 
-exclusive_beyond_determined : Determined 0 exclusive-beyond-kinds.ps exclusive-beyond-kinds.r exclusive-beyond-reads.Post
-exclusive_beyond_determined κs a z z' ws ws' p q = (only_one p q, refl)
+equals_determined : (t l c g d h e : _) → Determined 1 (equals-kinds.ps t l c) (equals-kinds.r t l c) (equals-reads.Post t l c g d h e)
+equals_determined t l c g d h e κs a z z' ws ws' p q = (only_one p q, refl)
 
-shared_exceeds_determined : Determined 0 shared-exceeds-kinds.ps shared-exceeds-kinds.r shared-exceeds-reads.Post
-shared_exceeds_determined κs a z z' ws ws' p q = (only_one p q, refl)
-
-shared_reaches_determined : Determined 0 shared-reaches-kinds.ps shared-reaches-kinds.r shared-reaches-reads.Post
-shared_reaches_determined κs a z z' ws ws' p q = (only_one p q, refl)
-
-shared_equals_determined : Determined 0 shared-equals-kinds.ps shared-equals-kinds.r shared-equals-reads.Post
-shared_equals_determined κs a z z' ws ws' p q = (only_one p q, refl)
-
-shared_beyond_determined : Determined 0 shared-beyond-kinds.ps shared-beyond-kinds.r shared-beyond-reads.Post
-shared_beyond_determined κs a z z' ws ws' p q = (only_one p q, refl)
+beyond_determined : (t l c g d h e : _) → Determined 1 (beyond-kinds.ps t l c) (beyond-kinds.r t l c) (beyond-reads.Post t l c g d h e)
+beyond_determined t l c g d h e κs a z z' ws ws' p q = (only_one p q, refl)

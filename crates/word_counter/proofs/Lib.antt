@@ -1,1 +1,2 @@
+pub mod Instances
 pub mod Determined

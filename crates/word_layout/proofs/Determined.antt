@@ -8,10 +8,10 @@ use Rattle.word_layout.proofs.step.Kinds as step-kinds
 use Rattle.word_layout.proofs.step.Reads as step-reads
 use Rattle.word_layout.proofs.back.Kinds as back-kinds
 use Rattle.word_layout.proofs.back.Reads as back-reads
-use Rattle.word_layout.proofs.split.Kinds as split-kinds
-use Rattle.word_layout.proofs.split.Reads as split-reads
-use Rattle.word_layout.proofs.join.Kinds as join-kinds
-use Rattle.word_layout.proofs.join.Reads as join-reads
+use Rattle.word_layout.proofs.CountersFromU64.from.Kinds as split-kinds
+use Rattle.word_layout.proofs.CountersFromU64.from.Reads as split-reads
+use Rattle.word_layout.proofs.U64FromCounters.from.Kinds as join-kinds
+use Rattle.word_layout.proofs.U64FromCounters.from.Reads as join-reads
 
 step_determined : Determined 0 step-kinds.ps step-kinds.r step-reads.Post
 step_determined κs a z z' ws ws' p q = (only_one p q, refl)

@@ -8,7 +8,7 @@ use word_counter::{Exclusive, Shared};
 
 // The four counters of a word: releases nX and nS, next tickets mX and mS.
 #[repr(C)]
-#[derive(Clone, Copy)]
+#[derive(Clone, Copy, PartialEq, Eq, Debug)]
 pub struct Counters {
     pub nx: Exclusive,
     pub ns: Shared,
@@ -17,7 +17,7 @@ pub struct Counters {
 }
 
 // Which of the four.
-#[derive(Clone, Copy)]
+#[derive(Clone, Copy, PartialEq, Eq, Debug)]
 pub enum Counter {
     NX,
     NS,
@@ -33,17 +33,9 @@ const STEP_MX: u64 = 1 << 16;
 
 const STEP_MS: u64 = 1;
 
-const BACK_NX: u64 = u64::MAX - STEP_NX + 1;
-
-const BACK_NS: u64 = u64::MAX - STEP_NS + 1;
-
-const BACK_MX: u64 = u64::MAX - STEP_MX + 1;
-
-const BACK_MS: u64 = u64::MAX - STEP_MS + 1;
-
 const WIDTH: u64 = 1 << 16;
 
-// The number that adds one to a counter.
+// The number that adds one to a counter. `step` is the word of rule 1.4, and no conversion of the counter.
 pub fn step(k: Counter) -> u64
     ensures { result ≡ step_of k }
 {
@@ -59,32 +51,31 @@ pub fn step(k: Counter) -> u64
 pub fn back(k: Counter) -> u64
     ensures { result ≡ back_of k }
 {
-    match k {
-        Counter::NX => BACK_NX,
-        Counter::NS => BACK_NS,
-        Counter::MX => BACK_MX,
-        Counter::MS => BACK_MS,
-    }
+    step(k).wrapping_neg()
 }
 
 // The counters of a word.
-pub fn split(w: u64) -> Counters
-    ensures { result ≡ split_of w }
-{
-    Counters {
-        nx: Exclusive((w / STEP_NX % WIDTH) as u16),
-        ns: Shared((w / STEP_NS % WIDTH) as u16),
-        mx: Exclusive((w / STEP_MX % WIDTH) as u16),
-        ms: Shared((w / STEP_MS % WIDTH) as u16),
+impl From<u64> for Counters {
+    ghost from_gives = { λ w c. c ≡ split_of w };
+
+    fn from(w: u64) -> Counters {
+        Counters {
+            nx: Exclusive((w / STEP_NX % WIDTH) as u16),
+            ns: Shared((w / STEP_NS % WIDTH) as u16),
+            mx: Exclusive((w / STEP_MX % WIDTH) as u16),
+            ms: Shared((w / STEP_MS % WIDTH) as u16),
+        }
     }
 }
 
 // The word of four counters.
-pub fn join(c: Counters) -> u64
-    ensures { result ≡ join_of c }
-{
-    c.nx.0 as u64 * STEP_NX
-        + c.ns.0 as u64 * STEP_NS
-        + c.mx.0 as u64 * STEP_MX
-        + c.ms.0 as u64 * STEP_MS
+impl From<Counters> for u64 {
+    ghost from_gives = { λ c w. w ≡ join_of c };
+
+    fn from(c: Counters) -> u64 {
+        c.nx.0 as u64 * STEP_NX
+            + c.ns.0 as u64 * STEP_NS
+            + c.mx.0 as u64 * STEP_MX
+            + c.ms.0 as u64 * STEP_MS
+    }
 }

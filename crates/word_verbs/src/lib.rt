@@ -4,22 +4,22 @@
 ghost use Rattle.std.specs.Prelude.{◌≡◌};
 ghost use Rattle.word_layout.specs.Word.{add_of, swap_of};
 
+use std::mem;
+
 // add k: the word becomes (word + k) modulo 2^64; the word before comes back.
 pub fn add(word: &mut u64, k: u64) -> u64
     ensures returned { result ≡ word.old }
     ensures left { word.new ≡ add_of word.old k }
 {
-    let before = *word;
-    *word = std::num::wrapping_add_u64(before, k);
-    before
+    let after = word.wrapping_add(k);
+    mem::replace(word, after)
 }
 
 // read: no change; the word comes back.
 pub fn read(word: &u64) -> u64
     ensures returned { result ≡ word.now }
 {
-    let shown = *word;
-    shown
+    *word
 }
 
 // swap old, new: the word becomes new if it equals old, else it stays; the word before comes back.
@@ -27,9 +27,8 @@ pub fn swap(word: &mut u64, old: u64, new: u64) -> u64
     ensures returned { result ≡ word.old }
     ensures left { word.new ≡ swap_of word.old old new }
 {
-    let found = *word;
-    if found == old {
-        *word = new;
+    if *word != old {
+        return *word;
     }
-    found
+    mem::replace(word, new)
 }

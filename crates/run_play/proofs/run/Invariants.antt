@@ -5,9 +5,9 @@ use Rattle.board_nodes.specs.Leaves.{lent_to}
 use Rattle.run_play.proofs.Playing.{Playing}
 use Rattle.run_play.proofs.run.Given as goal
 
-abbrev pub invariant-loop-map : goal.invariant-loop-map
-invariant-loop-map l =
+abbrev pub invariant-loop-ending : goal.invariant-loop-ending
+invariant-loop-ending l =
     Playing (lent_to l.fn.b l.fn.words) l.s l.at l.allowance l.fn.report (lent_to l.cur l.words) l.report l.map.parts l.place l.records l.verbs
 
-abbrev pub decreases-loop-map : goal.decreases-loop-map
-decreases-loop-map l = l.allowance - l.records
+abbrev pub decreases-loop-ending : goal.decreases-loop-ending
+decreases-loop-ending l = l.allowance - l.records

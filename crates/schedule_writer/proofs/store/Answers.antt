@@ -1,14 +1,14 @@
 -- A turn stores the lowest byte and leaves the others; when none is left all are stored.
 -- Assumes nothing.
-use Rattle.std.proofs.Common.{◌%◌, ◌∙◌, sym, arith, length-set}
-use Rattle.schedule_writer.proofs.Turns.{byte_stored, none_stored}
+use Rattle.schedule_writer.proofs.Fields.{byte_stored, all_stored}
 use Rattle.schedule_writer.proofs.store.Goals as goal
 
-pub loop-left-preserved : goal.loop-left-preserved
-loop-left-preserved c =
-    let l = c.loop-left in
-    let long = length-set l.buffer l.place (l.rest % 256) in
-    (byte_stored l.buffer l.place l.left l.rest c.loop-left-test.true ∙ l.invariant.0, omega (arith, l.invariant.1, c.loop-left-test.true, long))
+pub loop-byte-preserved : goal.loop-byte-preserved
+loop-byte-preserved c =
+    let l = c.loop-byte in
+    byte_stored l.field _ l.auto.field l.byte-index l.rest _ l.invariant c.loop-byte-test.true
 
 pub returns : goal.returns
-returns c = let l = c.loop-left in sym (none_stored l.buffer l.place l.left l.rest (omega arith)) ∙ l.invariant.0
+returns c =
+    let l = c.loop-byte in
+    all_stored l.field _ l.auto.field l.byte-index l.rest _ l.invariant c.loop-byte-test.false

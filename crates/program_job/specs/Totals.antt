@@ -1,0 +1,16 @@
+-- What runs came to together.
+use Rattle.std.specs.Prelude.{ℕ, ◌+◌, ◌%◌, ◌^◌}
+use Rattle.run_play.specs.declared.Ran.{Ran}
+use Rattle.program_job.specs.declared.Totals.{Totals}
+
+-- A sum within 64 bits.
+abbrev pub within_64 : ℕ → ℕ → ℕ
+within_64 a b = (a + b) % 2 ^ 64
+
+-- With what one more run came to: each of the three counts for itself.
+abbrev pub and_of : Totals → Ran → Totals
+and_of t ran = record {
+  records = within_64 t.records ran.records;
+  bytes = within_64 t.bytes ran.bytes;
+  verbs = within_64 t.verbs ran.verbs;
+}
