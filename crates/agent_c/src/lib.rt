@@ -15,7 +15,7 @@ use agent_request::Request;
 use agent_rules::{Answer, Numbers, Taken, Verb};
 use word_layout::Counters;
 
-// A verb in numbers. No From, here and below: both types stand in other crates.
+// A verb in numbers. No From, here and below: it would stand in `agent_c_rules`, which computes none of its definitions (docs/DECISIONS.md, 1).
 fn verb_of(v: Verb) -> CVerb
     ensures { result ≡ verb_of v }
 {

@@ -11,7 +11,8 @@ pub struct CVerb {
     pub second: u64,
 }
 
-// What is told: number and outcome of rules 5.1 and 5.3, and the number ahead where the outcome is 3.
+// What is told: number and outcome of rules 5.1 and 5.3, and the number ahead where the outcome is 3. As `Numbers` of `agent_rules`; the C interface fixes
+// this one's layout and the name of its last field.
 #[repr(C)]
 #[derive(Clone, Copy, PartialEq, Eq, Debug)]
 pub struct CTold {

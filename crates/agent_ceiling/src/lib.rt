@@ -1,11 +1,12 @@
 // The ceiling of tickets: whether the record is full, and the clearing word of the last ticket of a kind.
-// It relies on the contracts of `word_counter` and `word_layout`, and on how `agent_request` keeps a clearing word, alone.
+// It relies on the contracts of `word_counter` and `word_layout` alone.
 #![tactic(auto)]
 
 ghost use Rattle.std.specs.Prelude.{◌≡◌};
+ghost use Rattle.common.specs.Choice.{but};
+ghost use Rattle.agent_request.specs.Request.{NONE};
 ghost use Rattle.agent_ceiling.specs.Ceiling.{full_at, rest_of, clearing_word_of};
 
-use agent_request::NONE;
 use agent_ticket::Mode;
 use word_counter::{Counting, Exclusive, Shared};
 use word_layout::Counters;
@@ -34,14 +35,14 @@ fn rest(x: Exclusive, s: Shared) -> u64
     })
 }
 
-// The clearing word that comes with a ticket drawn at the counters p, or NONE, as a request keeps it.
+// The clearing word that comes with a ticket drawn at the counters p, if one does.
 #[tactic(auto, unfolding(crate::specs::Ceiling::clearing_word_of))]
-pub fn clearing_word(mode: Mode, p: Counters) -> u64
-    ensures { result ≡ clearing_word_of mode p }
+pub fn clearing_word(mode: Mode, p: Counters) -> Option<u64>
+    ensures { result ≡ but NONE (clearing_word_of mode p) }
 {
     match mode {
-        Mode::Reader if p.ms.equals(Shared(LAST)) => rest(p.mx, Shared(CEIL)),
-        Mode::Writer if p.mx.equals(Exclusive(LAST)) => rest(Exclusive(CEIL), p.ms),
-        _ => NONE,
+        Mode::Reader if p.ms.equals(Shared(LAST)) => Some(rest(p.mx, Shared(CEIL))),
+        Mode::Writer if p.mx.equals(Exclusive(LAST)) => Some(rest(Exclusive(CEIL), p.ms)),
+        _ => None,
     }
 }

@@ -6,7 +6,8 @@ ghost use Rattle.agent_rules.specs.Answers.{accepted_with, refused_with, numbers
 
 use agent_rules::{Answer, Numbers};
 
-// These two are the words of the rules (`Answers.antt`), and shorter in each arm than the struct.
+// These two are the words of the rules (`Answers.antt`), and shorter in each arm than the struct. A refusal by its number: `Refusal`, which has it by name,
+// is of the board's floor.
 fn refused(number: u8) -> Numbers
     ensures { result ≡ refused_with number }
 {
@@ -27,7 +28,8 @@ fn accepted(outcome: u8, value: u64) -> Numbers
     }
 }
 
-// The number, outcome and value of an answer. A function, and no `From`: both types are those of `agent_rules`, which holds definitions alone.
+// The number, outcome and value of an answer. No `From`: it would stand in `agent_rules`, and a crate of definitions computes no table of the rules
+// (docs/DECISIONS.md, 1).
 pub fn numbers_of(a: Answer) -> Numbers
     ensures { result ≡ numbers_of a }
 {

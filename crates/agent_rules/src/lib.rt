@@ -4,7 +4,7 @@
 use agent_request::Request;
 
 // A verb to send: none, add with its number, read, or swap with the old word and the new one.
-// Nothing is one of them, and there is no `Option`: the documents name it as a verb (docs/DECISIONS.md).
+// Nothing is one of them, and there is no `Option`: `CareNeverAsks` concludes it (`CarePromises.antt`), and the contracts of the three `_sends` answer it.
 #[derive(Clone, Copy, PartialEq, Eq, Debug)]
 pub enum Verb {
     Nothing,

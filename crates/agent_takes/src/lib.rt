@@ -44,7 +44,7 @@ fn with_ticket(q: Request, p: Counters) -> Request
 {
     Request {
         ticket: Ticket(p.mx, p.ms),
-        clearing: agent_ceiling::clearing_word(mode_of(q.mode), p),
+        clearing: agent_ceiling::clearing_word(mode_of(q.mode), p).unwrap_or(NONE),
         ..q
     }
 }
@@ -83,6 +83,7 @@ fn let_go(q: Request) -> Taken
     }
 }
 
+// Here and below request and result are two, as in `Life.antt`.
 // What the request becomes when the result v of its step's verb arrives.
 #[tactic(auto, unfolding(agent_rules::specs::Life::step_takes))]
 pub fn step_takes(q: Request, v: u64) -> Taken

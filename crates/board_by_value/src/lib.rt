@@ -13,7 +13,6 @@ use board_call::{AnyCall, Call};
 use board_rules::{Found, Played, Seen};
 use board_slots::{Board, Map};
 
-// Request and words go to a visit side by side: the one is handed over, the others are lent.
 // The visit of slot i by a call. It and `played` are inlined, so that a call copies the table less often and takes less of the stack.
 #[inline(always)]
 fn placed(mut b: Board, words: &mut [u64], o: AnyCall, i: usize) -> Played

@@ -9,7 +9,8 @@ use agent_rules::Numbers;
 use board_call::{AnyCall, Call};
 use board_rules::{Answer, Said};
 
-// The slot that a call names, as one byte; 0 where it names none, as the report has it (rule 7.6).
+// The slot that a call names, as one byte; 0 where it names none, as the report has it (rule 7.6). No Option: 0 is slot 0 as well, so the definition, of
+// which `NamesItsSlot` speaks, would not tell none apart.
 fn named_slot(c: Call) -> u8
     ensures { result ≡ named_slot c }
 {

@@ -61,7 +61,8 @@ pub struct Found {
     pub shut: bool,
 }
 
-// What became of a visited slot's request, and the answer.
+// What became of a visited slot's request, and the answer. As `Taken` of `agent_rules` with the board's answer: one type over both answers would be no
+// plainer, since the definitions of each floor name their own.
 #[derive(Clone, Copy, PartialEq, Eq, Debug)]
 pub struct Seen {
     pub request: Request,

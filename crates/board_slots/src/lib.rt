@@ -5,7 +5,8 @@
 use agent_request::Request;
 
 // What a board keeps: its slots, for each of them its node (0 for one that was freed), and for each node whether it is fenced.
-// The nodes stand in an array beside the slots: the rules and their theorems speak of the list of slots by itself, before there are nodes.
+// The nodes stand in an array beside the slots: `MapFindsLowest`, `MarkFollowsStore` and the others of `Promises.antt` speak of the list of slots by
+// itself, before there are nodes.
 #[derive(Clone, Copy)]
 pub struct Board {
     pub slots: [Request; 256],

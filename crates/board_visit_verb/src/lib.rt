@@ -25,6 +25,7 @@ fn send(word: &mut u64, v: Verb) -> u64
     }
 }
 
+// Here and below request and words are two: the request is handed over and the words are lent, as in `visit_of`.
 // Whether a verb may go out for a request.
 #[tactic(auto, unfolding(board_rules::specs::Records::refusal_of))]
 fn may_go_out(q: Request, v: Verb, words: &[u64]) -> Result<(), Refusal>

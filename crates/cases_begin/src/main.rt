@@ -32,6 +32,5 @@ fn main(rt: HostRuntime) {
     let b = shown(out, &mut totals, refused.board, &mut words, &second);
     let accepted = board_begin::begin(b.board, &mut words);
     let c = shown(out, &mut totals, accepted.board, &mut words, &third);
-    let ending = u64::from(u8::from(c.ending));
-    program_print::end_line(out, ending, totals.records, totals.bytes, totals.verbs);
+    totals.end_line(out, c.ending.into());
 }

@@ -21,8 +21,7 @@ pub fn after_almost_all_tickets(out: Stdout, mode: u8, second: &[u8]) {
     let ran = run_play::run(board, &mut words, second, 0, 1024, &mut report);
     program_print::entry_lines(out, totals.records, &report, ran.records);
     totals = totals.and(&ran);
-    let ending = u64::from(u8::from(ran.ending));
-    program_print::end_line(out, ending, totals.records, totals.bytes, totals.verbs);
+    totals.end_line(out, ran.ending.into());
 }
 
 // The ceiling of one mode: the last ticket, two requests of both modes turned away, clearing due, not yet clear while a withdrawal is owed,

@@ -8,10 +8,10 @@ ghost use Rattle.program_job.specs.Totals.{and_of};
 use board_slots::Board;
 use run_play::Ran;
 use run_rules::Ending;
-use std::io::Stdout;
+use std::io::{Print, Stdout};
 
 // The ending that is the program's own (rule 8.3): an input over 65,536 bytes.
-const TOO_LONG: u64 = 13;
+const TOO_LONG: u8 = 13;
 
 // What runs came to together: records, bytes taken and verbs.
 #[derive(Clone, Copy, Default)]
@@ -32,13 +32,23 @@ impl Totals {
             verbs: self.verbs.wrapping_add(ran.verbs as u64),
         }
     }
+
+    // Prints the last line: end, the ending's number, records, bytes taken, verbs. A number: 13 is no ending of a run.
+    pub fn end_line(self, out: Stdout, ending: u8) {
+        let Totals {
+            records,
+            bytes,
+            verbs,
+        } = self;
+        let _ = println!(out; "end {ending} {records} {bytes} {verbs}");
+    }
 }
 
 // Plays a schedule on a fresh board over lent words, prints its lines, and gives the board back. Over 65,536 bytes it plays nothing and prints
 // only the last line, with 13.
 fn played(out: Stdout, words: &mut [u64], input: &[u8]) -> Option<Board> {
     if 65536 < input.len() {
-        program_print::end_line(out, TOO_LONG, 0, 0, 0);
+        Totals::default().end_line(out, TOO_LONG);
         return None;
     }
     let mut board = board_begin::begin(board_begin::fresh(), words).board;
@@ -51,8 +61,7 @@ fn played(out: Stdout, words: &mut [u64], input: &[u8]) -> Option<Board> {
         totals = totals.and(&ran);
         board = ran.board;
         if !matches!(ran.ending, Ending::Spent | Ending::NoRoom) {
-            let ending = u64::from(u8::from(ran.ending));
-            program_print::end_line(out, ending, totals.records, totals.bytes, totals.verbs);
+            totals.end_line(out, ran.ending.into());
             break;
         }
     }

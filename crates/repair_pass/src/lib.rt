@@ -29,7 +29,8 @@ fn brings_on(outcome: u8) -> bool
 }
 
 // Writes a care at a place of the log and answers the place behind it; where it does not fit nothing is written, and the place stays.
-// As run_entry::put, with 3 bytes: no crate below both but common.
+// As `run_entry::put` of the run's floor, with 3 bytes and the place behind them: alike are one test and one copy, and one function for both, public and in
+// a crate below both floors, would be no shorter.
 #[tactic(auto, using(crate::proofs::Stores::stays, crate::proofs::Stores::moves, crate::proofs::Stores::misses, crate::proofs::Stores::stored))]
 fn put_care(log: &mut [u8], at: usize, slot: u8, phase: u8, outcome: u8) -> usize
     ensures after { result ≡ place_after log.old at }

@@ -27,7 +27,7 @@ pub fn halted(n: Next, spent: bool, room: usize) -> Option<Ending>
 }
 
 // What a run ends with where no record stands.
-// No From: both types stand in other crates.
+// No From: it would stand in `run_rules`, which computes no rule (docs/DECISIONS.md, 1).
 pub fn left_by(n: Next) -> Ending
     ensures { ending_number result ≡ leaves_of n }
 {

@@ -28,7 +28,7 @@ pub struct Ran {
     pub board: Board,
 }
 
-// Writes the entry of a step of slot n that goes on waiting.
+// Writes the entry of a step of slot n that goes on waiting, by a place, as `put_of` does.
 fn put_waiting(report: &mut [u8], at: usize, n: usize, ahead: u64)
     ensures { report.new ≡ put_of report.old at (said_of (Step n) (Told (Waiting ahead))) }
 {
@@ -42,7 +42,8 @@ fn put_waiting(report: &mut [u8], at: usize, n: usize, ahead: u64)
     );
 }
 
-// Plays the schedule from a place on, within an allowance of records and the room of the report. It stays above 40 lines: a function for a part
+// Plays the schedule from a place on, within an allowance of records and the room of the report. Schedule and place are two: who runs on is told by
+// `Ran` how many bytes were taken. It stays above 40 lines: a function for a part
 // of its loop would take the board and copy it, and one for the two tests ahead costs each step a fifth more instructions. Tried: the stores of both
 // ways behind them, once, cost an open a fifth more and a step an eighth (docs/PERFORMANCE.md).
 #[tactic(auto, using(board_rules::proofs::Visits::aim_small, board_visit_waiting::proofs::Waits::stepped_is))]

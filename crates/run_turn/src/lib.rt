@@ -19,7 +19,7 @@ pub struct Turned {
     pub verbs: usize,
 }
 
-// A call is played on a slot, and its entry is written at a place of the report.
+// A call is played on a slot, and its entry is written at a place of the report; slice and place here and below, as in `put_of`.
 pub fn turn(o: AnyCall, found: Found, words: &mut [u64], report: &mut [u8], at: usize) -> Turned
     ensures handed { result ≡ turn_leaves o (any_visit o found.slot found.shut found.request words.old) }
     ensures left { words.new ≡ (any_visit o found.slot found.shut found.request words.old).words }

@@ -11,6 +11,7 @@ use schedule_bytes::Next;
 use schedule_kinds::Parts;
 use schedule_writing::{Placed, Standing};
 
+// Bytes and place are two here and below: C hands them over so.
 // What stands at a place of a schedule, for any bytes and any place: the kind and the numbers of the record, and the place behind it.
 #[unsafe(no_mangle)]
 pub extern "C" fn brancove_schedule_read(schedule: &[u8], place: usize) -> Standing

@@ -7,7 +7,8 @@ ghost use Rattle.schedule_kinds.specs.Kinds.{parts_of};
 use board_call::{AnyCall, Call};
 use schedule_kinds::Parts;
 
-// The kind and the numbers of a call: a kind is a line. No From: both types stand in other crates.
+// The kind and the numbers of a call: a kind is a line. No From: it would stand in `schedule_kinds`, which computes none of its definitions
+// (docs/DECISIONS.md, 1).
 pub fn parts_of(c: AnyCall) -> Parts
     ensures { result ≡ parts_of c }
 {

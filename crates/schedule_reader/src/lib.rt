@@ -21,7 +21,7 @@ pub struct Handed {
 }
 
 // The first that a reader from a place hands out, and where the reader stands then: a record moves the place past it; the end, an unknown
-// kind and a cut body leave it.
+// kind and a cut body leave it. By slice and place: `Reader` is the struct of both.
 pub fn first(s: &[u8], at: usize) -> Handed
     ensures { result ≡ handed_of s.now at }
 {

@@ -103,7 +103,7 @@ fn store_record(bytes: &mut [u8], p: Parts)
 }
 
 // Writes a kind with its numbers at a place: the next free place, or why it was refused, and then the buffer is as it was.
-// Buffer and place, as a caller in C gives them and gets the next place.
+// Buffer and place, here and below, as a caller in C gives them and gets the next place.
 #[tactic(auto, unfolding(schedule_writing::specs::Writing::writing_of, schedule_writing::specs::Writing::length_of))]
 fn lay(buffer: &mut [u8], at: usize, p: Parts) -> Result<usize, Refused>
     ensures told { told_at at result ≡ placed_of (writing_of buffer.old at p) }
