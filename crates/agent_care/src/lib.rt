@@ -22,7 +22,7 @@ pub fn care_sends(q: Request) -> Verb
 }
 
 // What the request becomes when the result v of its care's verb arrives; where the request is Asking it is the same for every v. Request and result are
-// two, as in `Life.antt`.
+// two, as in `Care.antt`.
 #[tactic(auto, unfolding(agent_rules::specs::Care::care_takes))]
 pub fn care_takes(q: Request, v: u64) -> Taken
     ensures { result ≡ care_takes q v }

@@ -1,5 +1,5 @@
 // The ceiling of tickets: whether the record is full, and the clearing word of the last ticket of a kind.
-// It relies on the contracts of `word_counter` and `word_layout` alone.
+// It relies on the contracts of `word_counter` and `word_layout`, and on which number `agent_request` keeps for no clearing word, alone.
 #![tactic(auto)]
 
 ghost use Rattle.std.specs.Prelude.{◌≡◌};

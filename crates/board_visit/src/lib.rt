@@ -10,7 +10,7 @@ use agent_request::Request;
 use board_call::Call;
 use board_rules::{Answer, Refusal, Seen};
 
-// The visit of a show. As `board_views::show`, which reads the map besides: a call of it would have a visit rely on the map's crates for one test.
+// The visit of a show. As `board_views::show`: a call of it would have a visit rely on that crate, and by it on the map's, for one test.
 #[tactic(auto, using(board_rules::proofs::Sent::record_small, board_rules::proofs::Sent::record_lent), unfolding(board_rules::specs::Visit::show_visit, board_rules::specs::Board::shown_of))]
 fn show_visit(record: u64, q: Request, words: &[u64]) -> Seen
     ensures { result ≡ handed (show_visit «record» q words.now) }

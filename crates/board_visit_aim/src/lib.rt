@@ -7,7 +7,8 @@ ghost use Rattle.board_rules.specs.Visit.{aim_of, within_board};
 use board_call::Call;
 use board_slots::Map;
 
-// A slot number as it stands, and slot 0 for one above 255. No TryFrom: this is the definition's choice word for word, and no longer.
+// A slot number as it stands, and slot 0 for one above 255. No TryFrom: it would be no shorter, and the choice
+// at 256 is the definition's.
 fn within(i: u64) -> usize
     ensures { result ≡ within_board i }
 {

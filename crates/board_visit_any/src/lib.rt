@@ -11,7 +11,7 @@ ghost use Rattle.board_nodes.specs.Visit.{behind_gate, any_visit};
 use board_call::AnyCall;
 use board_rules::{Answer, Found, Refusal, Seen};
 
-// Here and below call, slot and words are three: the call comes from the schedule, the slot is what the holder of the table found, the words are lent.
+// Here and below call, slot and words are three: the call is what is played, the slot is what the holder of the table found, the words are lent.
 // The visit behind the gate.
 #[tactic(auto, using(board_rules::proofs::Words::open_words), unfolding(board_rules::specs::Visit::named_visit))]
 fn behind_gate(o: AnyCall, found: Found, words: &mut [u64]) -> Seen

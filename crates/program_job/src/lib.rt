@@ -8,7 +8,7 @@ ghost use Rattle.program_job.specs.Totals.{and_of};
 use board_slots::Board;
 use run_play::Ran;
 use run_rules::Ending;
-use std::io::{Print, Stdout};
+use std::io::Stdout;
 
 // The ending that is the program's own (rule 8.3): an input over 65,536 bytes.
 const TOO_LONG: u8 = 13;
@@ -33,14 +33,9 @@ impl Totals {
         }
     }
 
-    // Prints the last line: end, the ending's number, records, bytes taken, verbs. A number: 13 is no ending of a run.
+    // Prints the last line, with the ending's number: 13 is no ending of a run.
     pub fn end_line(self, out: Stdout, ending: u8) {
-        let Totals {
-            records,
-            bytes,
-            verbs,
-        } = self;
-        let _ = println!(out; "end {ending} {records} {bytes} {verbs}");
+        program_print::end_line(out, ending.into(), self.records, self.bytes, self.verbs);
     }
 }
 

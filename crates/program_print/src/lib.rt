@@ -1,4 +1,4 @@
-// What programs print: a line for each entry of a report, and a line for each care of a repair. Lines are collected and go out in
+// What programs print: a line for each entry of a report, the last line, and a line for each care of a repair. Lines are collected and go out in
 // large writes. No contract can say what is written.
 #![tactic(auto)]
 
@@ -80,6 +80,11 @@ pub fn entry_lines(out: Stdout, before: u64, report: &[u8], entries: usize) {
             value: u64::from_le_bytes(*entry.last_chunk().unwrap()),
         }),
     );
+}
+
+// The last line: end, ending number, records, bytes taken, verbs. Any four numbers, one by one: narrower types would ask more of callers.
+pub fn end_line(out: Stdout, ending: u64, records: u64, bytes: u64, verbs: u64) {
+    let _ = println!(out; "end {ending} {records} {bytes} {verbs}");
 }
 
 // The lines of the first cares of a log: slot, old phase, outcome.

@@ -74,8 +74,8 @@ fn too_large(p: Parts) -> bool
     exceeds(p.first, first) || exceeds(p.second, second) || exceeds(p.third, third)
 }
 
-// Stores a number in a field, low byte first. The archive for C is to need nothing of the C library: a copy of a length that only the run knows
-// calls `memcpy`, and so does this loop `memset` where the compiler sees by a caller that only zeros are left.
+// Stores a number in a field, low byte first. The archive for C is to need nothing of the C library: a copy of a length that only the run knows is a
+// call of its `memcpy`, and where the compiler sees by a caller that only zeros are left this loop is one of `memset`.
 #[inline(never)]
 fn store(field: &mut [u8], n: u64)
     ensures { field.new ≡ bytes_of (length field.old) n }
