@@ -21,7 +21,7 @@ verb_of (verb.Swap old new) = record { kind = 3; first = old; second = new }
 abbrev pub told_of : Answer → CTold
 told_of a = record { number = (numbers_of a).number; outcome = (numbers_of a).outcome; ahead = (numbers_of a).value }
 
--- What the request becomes when it is to ask, with the number of rule 5.1.
+-- Decision 33: What the request becomes when it is to ask, with the number that is told.
 pub record Asked : Type 0 where
   pub request : Request
   pub number : ℕ

@@ -31,7 +31,7 @@ pub fn begin(b: Board, words: &mut [u64]) -> Played
     if n == 0 || 4096 < n {
         return Played {
             board: b,
-            answer: Answer::Refused(Refusal::NoWords.into()),
+            answer: Answer::Refused(Refusal::NoWordsOrTooMany.into()),
         };
     }
     words.fill(0);

@@ -101,9 +101,12 @@ pub fn gate(o: AnyCall, shut: bool, q: Request, words: &[u64]) -> Result<(), Ref
             open_gate(record, mode, shut, words)
         }
         AnyCall::Base(Call::Step(slot) | Call::Release(slot)) => {
-            pass_unless(used_shut(slot, q, shut), Refusal::SlotIsFenced)
+            pass_unless(used_shut(slot, q, shut), Refusal::NodeOfSlotIsFenced)
         }
-        AnyCall::Care(slot) => pass_unless(used_shut(slot, q, !shut), Refusal::SlotIsNotFenced),
+        AnyCall::Care(slot) => pass_unless(
+            used_shut(slot, q, !shut),
+            Refusal::NodeOfSlotIsNotFenced,
+        ),
         AnyCall::Base(Call::Show(_)) | AnyCall::Fence(_) => Ok(()),
     }
 }

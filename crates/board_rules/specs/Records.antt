@@ -6,8 +6,8 @@ use Rattle.agent_rules.specs.declared.Verb.{Verb}
 use Rattle.agent_rules.specs.declared.Verb.TheVariants.{Nothing, Add, Read, Swap}
 use Rattle.agent_request.specs.Request.{in_use}
 use Rattle.board_rules.specs.declared.Refusal.{Refusal}
-use Rattle.board_rules.specs.declared.Refusal.TheVariants.{SlotTooHigh, NoRecord, NoMode, SlotIsFree, WrongPhase, NoSlotIsFree, NoWords}
-use Rattle.board_rules.specs.declared.Refusal.TheVariants.{NodeIsFenced, SlotIsFenced, SlotIsNotFenced}
+use Rattle.board_rules.specs.declared.Refusal.TheVariants.{SlotTooHigh, NoRecord, NoMode, SlotIsFree, WrongPhase, NoSlotIsFree, NoWordsOrTooMany}
+use Rattle.board_rules.specs.declared.Refusal.TheVariants.{NodeIsFenced, NodeOfSlotIsFenced, NodeOfSlotIsNotFenced}
 
 -- Rule 5.1: The number of each refusal of a call on the board.
 abbrev pub refusal_number : Refusal → ℕ
@@ -17,12 +17,12 @@ refusal_number NoMode = 3
 refusal_number SlotIsFree = 4
 refusal_number WrongPhase = 5
 refusal_number NoSlotIsFree = 6
-refusal_number NoWords = 9
+refusal_number NoWordsOrTooMany = 9
 refusal_number NodeIsFenced = 14
-refusal_number SlotIsFenced = 15
-refusal_number SlotIsNotFenced = 16
+refusal_number NodeOfSlotIsFenced = 15
+refusal_number NodeOfSlotIsNotFenced = 16
 
--- The number that a test gives, 0 where it lets through.
+-- Rule 5.1: The number that a test gives: that of the refusal, 0 where it lets through.
 abbrev pub number_given : {A : Type 0} → Result A Refusal → ℕ
 number_given (Ok a) = 0
 number_given (Err why) = refusal_number why

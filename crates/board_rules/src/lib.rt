@@ -17,10 +17,10 @@ pub enum Refusal {
     SlotIsFree = 4,
     WrongPhase = 5,
     NoSlotIsFree = 6,
-    NoWords = 9,
+    NoWordsOrTooMany = 9,
     NodeIsFenced = 14,
-    SlotIsFenced = 15,
-    SlotIsNotFenced = 16,
+    NodeOfSlotIsFenced = 15,
+    NodeOfSlotIsNotFenced = 16,
 }
 
 // The number that callers are told.

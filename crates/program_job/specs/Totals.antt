@@ -1,13 +1,13 @@
--- What runs came to together.
+-- What runs came to together, as the last line tells it.
 use Rattle.std.specs.Prelude.{ℕ, ◌+◌, ◌%◌, ◌^◌}
 use Rattle.run_play.specs.declared.Ran.{Ran}
 use Rattle.program_job.specs.declared.Totals.{Totals}
 
--- A sum within 64 bits.
+-- A sum in 64 bits, modulo 2 ^ 64. Rule 8.2 knows no such bound, and no program plays enough to meet it.
 abbrev pub within_64 : ℕ → ℕ → ℕ
 within_64 a b = (a + b) % 2 ^ 64
 
--- With what one more run came to: each of the three counts for itself.
+-- Rule 8.2: With what one more run came to: records, bytes and verbs, each for itself.
 abbrev pub and_of : Totals → Ran → Totals
 and_of t ran = record {
   records = within_64 t.records ran.records;

@@ -7,7 +7,7 @@ ghost use Rattle.std.specs.Prelude.{◌≡◌, ◌≤◌, ◌^◌, leb, length};
 ghost use Rattle.schedule_kinds.specs.Kinds.{widths_of, numbers_of};
 ghost use Rattle.schedule_writing.specs.Writing.{bytes_of, record_of, length_of, too_large, writing_of, written_of, buffer_of};
 ghost use Rattle.schedule_writing.specs.Boundary.{placed_of};
-ghost use Rattle.schedule_writer.specs.Answers.{refusal_of, told_at, not_written_of};
+ghost use Rattle.schedule_writer.specs.Answers.{refused_number, told_at, not_written_of};
 
 use board_call::AnyCall;
 use schedule_kinds::Parts;
@@ -23,7 +23,7 @@ enum Refused {
 
 // The number of a refusal.
 impl From<Refused> for u8 {
-    ghost from_gives = { λ refused number. number ≡ refusal_of refused };
+    ghost from_gives = { λ refused number. number ≡ refused_number refused };
 
     fn from(refused: Refused) -> u8 {
         refused as u8

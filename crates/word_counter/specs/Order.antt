@@ -30,7 +30,7 @@ equals_x a b = equals_n a.0 b.0
 abbrev pub beyond_x : Exclusive → Exclusive → ℕ
 beyond_x a b = beyond_n a.0 b.0
 
--- Rule 1.3: The same of two shared counters. No comparison takes one of each kind.
+-- Rule 1.3: The same of two shared counters. No comparison of counters takes one of each kind.
 abbrev pub exceeds_s : Shared → Shared → Bool
 exceeds_s a b = exceeds_n a.0 b.0
 
