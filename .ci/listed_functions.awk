@@ -4,7 +4,7 @@
 # breaks, comments and attributes may stand anywhere. A function is public if it is `pub`, in whatever module, or is exported to C, or
 # stands in a `pub trait`. It complains of a public function that has any clause but `ensures`.
 #
-# An `impl` of a trait has no name, and its functions are not `pub`. Where the trait is one of the repository, what they promise is what the
+# An `impl` of a trait has no name, and its functions are not `pub`. Where the trait stands in the same module, what they promise is what the
 # trait's functions do, which are listed. Where it is one of the library, the promise stands in the `impl` itself, in the ghost members that
 # are named below, and its functions are listed under the name that the toolchain gives the `impl`: TYPETRAITARGUMENTS.
 #
@@ -23,13 +23,14 @@ function lost(text) {
 }
 
 # The library's traits of which an `impl` is understood, each with the ghost members that such an `impl` may give: none of them asks anything
-# of callers. Of those in `silent` the functions are not listed, since what is printed or dropped is no part of a contract.
+# of callers. Of those in `silent` the functions are not listed, since what is printed is no part of a contract. `homes` are the modules in
+# which these traits stand: an `impl` that names another before the trait is not understood.
 BEGIN {
     members["From"] = " from_gives "
-    members["TryFrom"] = " try_from_gives "
-    members["Default"] = " is_default "
-    members["Display"] = members["Error"] = members["Drop"] = " "
-    silent["Display"] = silent["Error"] = silent["Drop"] = 1
+    members["Display"] = " "
+    silent["Display"] = 1
+    homes["From"] = "convert"
+    homes["Display"] = "fmt"
 }
 
 function join(module, last) { return module == "" ? last : module "::" last }
@@ -63,7 +64,7 @@ function end_file() {
 
 function next_item() {
     state = "item"
-    visible = named = given = ""
+    visible = named = given = way = ""
     exported = round = curly = behind = 0
 }
 
@@ -161,7 +162,8 @@ function in_impl(t) {
     else if (round > 0) { if (behind == 1) given = given (is_word(t) ? capital(t) : "?") }
     else if (t == "for" && named ~ /[^:]$/ && behind != 2 && given !~ /\?/) { impl_of = named; named = ""; behind = 2 }
     else if (t == ":" && named != "" && behind == 0) named = named ":"
-    else if ((named == "" || named ~ /::$/) && is_word(t)) named = t
+    else if (named ~ /[^:]::$/ && is_word(t)) { way = way named; named = t }
+    else if (named == "" && is_word(t)) named = t
     else if (t == "{" && named ~ /[^:]$/ && behind == 2) open_impl()
     else if (t == "{" && named ~ /[^:]$/) open_level(modules[depth], named, "")
     else lost("the type of an `impl`")
@@ -173,7 +175,10 @@ function open_impl(    name) {
     name = capital(named) impl_of given
     impls++
     impl_trait[impls] = impl_of
+    impl_key[impls] = way == "" ? crate SUBSEP modules[depth] SUBSEP impl_of : ""
     impl_place[impls] = file ":" line
+    if ((impl_of in members) && way != "" && way != homes[impl_of] "::" && way != "std::" homes[impl_of] "::")
+        complain(file ":" line, "an `impl` of " way impl_of ", which this script does not know")
     is_type[crate, join(modules[depth], name)] = 1
     open_level(modules[depth], name, (impl_of in members) && !(impl_of in silent) ? "listed impl of a trait" : "impl of a trait")
     trait_of[depth] = impl_of
@@ -183,9 +188,10 @@ function open_impl(    name) {
 function in_trait(t) {
     if (named == "" && is_word(t)) {
         named = t
-        if (t in members || t in is_trait || t ~ /^(Iterator|IntoIterator|Model|Owns|Clone|Copy|Hash|(Partial)?(Eq|Ord)|Fn(Mut|Once)?)$/)
+        if (t in members || t in is_trait ||
+            t ~ /^((Into)?Iterator|Model|Owns|Clone|Copy|Hash|(Partial)?(Eq|Ord)|Fn(Mut|Once)?|TryFrom|Default|Error|Drop)$/)
             complain(file ":" line, "a second trait " t)
-        is_trait[t] = 1
+        is_trait[t] = trait_at[crate, modules[depth], t] = 1
         is_type[crate, join(modules[depth], t)] = 1
     }
     else if (named != "" && t == "{") open_level(modules[depth], named, visible == "pub" ? "public trait" : "trait")
@@ -214,10 +220,16 @@ function in_fields(t) {
     if (round == 0 && curly == 0 && (t == ";" || t == "}")) next_item()
 }
 
-# `use crate::a::T;` is kept in mind: an `impl T` may follow
-function in_use(t,    path) {
+# `use crate::a::T;` is kept in mind: an `impl T` may follow. A `use` may bring the traits of `members` and the modules in which they stand from
+# the library alone, and nothing else under their names
+function in_use(t,    path, name) {
     nest(t)
     if (t != ";" || curly > 0) { used = used " " t; return }
+    if (used ~ / \*( |$)/) lost("a `use` of all that a module has")
+    for (name in members)
+        if ((brings(name) && used !~ ("^ std : : " homes[name] " : : ")) || (brings(homes[name]) && used !~ ("^ std : : (" homes[name] "|\\{)")) ||
+            used ~ (" as (" name "|" homes[name] ")( |$)"))
+            complain(file ":" line, "a `use` that brings " name " or " homes[name] " from elsewhere")
     if (used ~ /^ crate( : : [A-Za-z_][A-Za-z0-9_]*)+$/) {
         path = substr(used, length(" crate : : ") + 1)
         gsub(/ : : /, "::", path)
@@ -226,6 +238,9 @@ function in_use(t,    path) {
     }
     next_item()
 }
+
+# whether a path in the `use` ends with this name, or with `self` behind it
+function brings(name) { return used ~ (" " name "( : : \\{( [^{}]* ,)? self| [,}]|$)") }
 
 function in_name(t) {
     if (!is_word(t)) { lost("a function without a name"); return }
@@ -334,7 +349,7 @@ END {
     for (file in module_of)
         if (!(module_of[file] in declared)) complain(file, "no `mod` of its crate leads to it by its name: its functions have no path")
     for (i = 1; i <= impls; i++)
-        if (!(impl_trait[i] in members) && !(impl_trait[i] in is_trait))
+        if (!(impl_trait[i] in members) && !(impl_key[i] in trait_at))
             complain(impl_place[i], "an `impl` of " impl_trait[i] ", which is none of the traits that this script knows")
     for (i = 1; i <= functions; i++) {
         path = path_of(i)
