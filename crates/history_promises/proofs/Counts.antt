@@ -50,6 +50,10 @@ module _ {A : Type 0} (f : A → Bool) where
       let i = counted_set l p a d (omega arith) in
       omega (arith, counted_cons b l, counted_cons b (set l p a))
 
+  pub counted_le : (l : List A) → counted f l ≤ length l
+  counted_le [] = omega (arith, counted_nil)
+  counted_le (a ∷ l) = let i = counted_le l in let b = one_le (f a) in omega (arith, counted_cons a l)
+
   -- no more pass before a place than in all
   pub counted_take : (l : List A) (p : ℕ) → counted f (take p l) ≤ counted f l
   counted_take [] zero = omega arith

@@ -42,6 +42,22 @@ pub record Passing (t₀ : Site) (log₀ : List ℕ) (at : ℕ) (t : Site) (log 
   pub brings : some_bring_on (pass_of t₀).cares ≡ (on || some_bring_on (rest_of i t).cares)
   pub logged : logged_at log₀ at (pass_of t₀).cares ≡ logged_at log place (rest_of i t).cares
 
+-- before the first slot
+pub begins : (t : Site) (log : List ℕ) (at : ℕ) → length t.slots ≡ 256 → ((j : ℕ) → node_at t j < 256) → Passing t log at t log at 0 false 0
+begins t log at long noded =
+    record {
+      long = long;
+      noded = noded;
+      lent = refl;
+      room = refl;
+      within = omega arith;
+      few = omega arith;
+      left = refl;
+      count = omega arith;
+      brings = refl;
+      logged = refl;
+    }
+
 logged_long : (log : List ℕ) (at : ℕ) (c : Cared) → length (care_logged log at c) ≡ length log
 logged_long log at c = either (λ (l : List ℕ). length l ≡ length log) (fits_at log at) (length-sets log at (care_bytes c)) refl
 
