@@ -29,7 +29,7 @@ const SPACE: i64 = 31;
 /// No arrow may come nearer than this to a box that is not its end.
 const CLEAR: i64 = 2;
 /// Crates of the toolchain, which may be named and are not drawn.
-const TOOLCHAIN: [&str; 3] = ["io", "libc", "os"];
+const TOOLCHAIN: [&str; 4] = ["io", "itoa", "libc", "os"];
 const LEGEND: &str = "An arrow: relies on; arrows that follow from longer ways are left out. Lines that meet lead to the same crate.";
 /// Colours of arrows, and the colours of a floor and of its title.
 const COLOURS: [&str; 8] = ["#1f5fa8", "#b3261e", "#1b7a43", "#7a3fa0", "#a85500", "#00757d", "#b0177a", "#3d3d3d"];
