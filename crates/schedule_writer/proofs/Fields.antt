@@ -11,7 +11,7 @@ use lib.Dec.{leb}
 use borrow.Rule.Slice.PartMut.{put_mid}
 use lib.ListN.{length, take, get_or, set}
 use lib.Seq.{sets, drop-drop}
-use Rattle.std.proofs.lemmas.List.{take_more_set, take_all}
+use Rattle.std.proofs.lemmas.List.{take_more_set, take_all, nil_from_length}
 use Rattle.std.proofs.lemmas.List.Edits.{sets-eq}
 use Rattle.common.specs.Choice.{when◌then◌else◌}
 use Rattle.schedule_kinds.specs.Kinds.{widths_of, body_of, total, numbers_of}
@@ -73,14 +73,15 @@ module _ (p : Parts) (ws : List ℕ) (w : ws ≡ widths_of p.kind) where
   together = rw w (three_fields p.kind).together
 
   pub is_the_record :
-      (x a b c : List ℕ) (i j k : ℕ) →
+      (x a b c d : List ℕ) (i j k : ℕ) →
       length x ≡ 1 →
       (a ≡ bytes_of i p.first) × (i ≡ get_or ws 0 0) →
       (b ≡ bytes_of j p.second) × (j ≡ get_or ws 1 0) →
       (c ≡ bytes_of k p.third) × (k ≡ get_or ws 2 0) →
-      set x 0 p.kind ++ (a ++ (b ++ c)) ≡ record_of p
+      length d ≡ 0 →
+      set x 0 p.kind ++ (a ++ (b ++ (c ++ d))) ≡ record_of p
   unfolding record_of fields_of
-  is_the_record x a b c i j k one e1 e2 e3 = rw (only p.kind x one, e1.0, e2.0, e3.0, e1.1, e2.1, e3.1, are, append-nil) refl
+  is_the_record x a b c d i j k one e1 e2 e3 none = rw (only p.kind x one, e1.0, e2.0, e3.0, e1.1, e2.1, e3.1, nil_from_length d none, are, append-nil) refl
 
   -- the first number that is too large for its field decides; the third decides where the others fit
   pub by_the_first : leb (256 ^ get_or ws 0 0) p.first ≡ true → true ≡ too_large (widths_of p.kind) (numbers_of p)

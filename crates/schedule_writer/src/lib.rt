@@ -75,8 +75,8 @@ fn too_large(p: Parts) -> bool
 }
 
 // Stores a number in a field, low byte first. The archive for C is to need nothing of the C library: a copy of a length that only the run knows is a
-// call of its `memcpy`, and where the compiler sees by a caller that only zeros are left this loop is one of `memset`.
-#[inline(never)]
+// call of its `memcpy`, and where the compiler sees by a caller that only zeros are left this loop may become one of `memset`. So each caller gives
+// a field whose length is one of a few constants, and the loop is unrolled; `nm -u` of the archive says whether it still is.
 fn store(field: &mut [u8], n: u64)
     ensures { field.new ≡ bytes_of (length field.old) n }
 {
@@ -87,15 +87,17 @@ fn store(field: &mut [u8], n: u64)
     }
 }
 
-// Stores a record where there is just room for it: its kind, then its numbers.
+// Stores a record where there is just room for it: its kind, then its numbers. The third field too is as long as its width says: what is left of the
+// record is as long, and the compiler knows no bound of it.
 fn store_record(bytes: &mut [u8], p: Parts)
     requires { length bytes.old ≡ length_of p }
     ensures { bytes.new ≡ record_of p }
 {
-    let [first, second, _] = widths_of(p.kind);
+    let [first, second, third] = widths_of(p.kind);
     let (kind, fields) = bytes.split_at_mut(1);
     let (one, fields) = fields.split_at_mut(first);
-    let (two, three) = fields.split_at_mut(second);
+    let (two, fields) = fields.split_at_mut(second);
+    let (three, _) = fields.split_at_mut(third);
     kind[0] = p.kind;
     store(one, p.first);
     store(two, p.second);

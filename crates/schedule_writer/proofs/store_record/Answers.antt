@@ -17,12 +17,17 @@ pub split_at_mut-two-requires : goal.split_at_mut-two-requires
 unfolding length_of
 split_at_mut-two-requires c = let all = together c.args.p _ c.widths_of.ensures in omega arith
 
+pub split_at_mut-three-requires : goal.split_at_mut-three-requires
+unfolding length_of
+split_at_mut-three-requires c = let all = together c.args.p _ c.widths_of.ensures in omega arith
+
 pub returns : goal.returns
 unfolding length_of
 returns c =
     let all = together c.args.p _ c.widths_of.ensures in
-    let two = c.split_at_mut-two.ensures in
-    is_the_record c.args.p _ c.widths_of.ensures _ _ _ _ _ _ _ c.split_at_mut-kind.ensures.front_len
+    let three = c.split_at_mut-three.ensures in
+    is_the_record c.args.p _ c.widths_of.ensures _ _ _ _ _ _ _ _ c.split_at_mut-kind.ensures.front_len
     (c.store.ensures, c.split_at_mut-one.ensures.front_len)
-    (c.store-2.ensures, two.front_len)
-    (c.store-3.ensures, omega arith)
+    (c.store-2.ensures, c.split_at_mut-two.ensures.front_len)
+    (c.store-3.ensures, three.front_len)
+    (omega arith)
