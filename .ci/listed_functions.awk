@@ -22,15 +22,11 @@ function lost(text) {
     dead = 1
 }
 
-# The library's traits of which an `impl` is understood, each with the ghost members that such an `impl` may give: none of them asks anything
-# of callers. Of those in `silent` the functions are not listed, since what is printed is no part of a contract. `homes` are the modules in
-# which these traits stand: an `impl` that names another before the trait is not understood.
+# The library's traits of which an `impl` is understood, each with the ghost members that such an `impl` may give, none of which asks anything of
+# callers, and with the module in which it stands: an `impl` that names another before the trait is not understood.
 BEGIN {
     members["From"] = " from_gives "
-    members["Display"] = " "
-    silent["Display"] = 1
     homes["From"] = "convert"
-    homes["Display"] = "fmt"
 }
 
 function join(module, last) { return module == "" ? last : module "::" last }
@@ -180,7 +176,7 @@ function open_impl(    name) {
     if ((impl_of in members) && way != "" && way != homes[impl_of] "::" && way != "std::" homes[impl_of] "::")
         complain(file ":" line, "an `impl` of " way impl_of ", which this script does not know")
     is_type[crate, join(modules[depth], name)] = 1
-    open_level(modules[depth], name, (impl_of in members) && !(impl_of in silent) ? "listed impl of a trait" : "impl of a trait")
+    open_level(modules[depth], name, (impl_of in members) ? "listed impl of a trait" : "impl of a trait")
     trait_of[depth] = impl_of
 }
 
@@ -189,7 +185,7 @@ function in_trait(t) {
     if (named == "" && is_word(t)) {
         named = t
         if (t in members || t in is_trait ||
-            t ~ /^((Into)?Iterator|Model|Owns|Clone|Copy|Hash|(Partial)?(Eq|Ord)|Fn(Mut|Once)?|TryFrom|Default|Error|Drop)$/)
+            t ~ /^((Into)?Iterator|Model|Owns|Clone|Copy|Hash|(Partial)?(Eq|Ord)|Fn(Mut|Once)?|TryFrom|Default|Display|Error|Drop)$/)
             complain(file ":" line, "a second trait " t)
         is_trait[t] = trait_at[crate, modules[depth], t] = 1
         is_type[crate, join(modules[depth], t)] = 1
