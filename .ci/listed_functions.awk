@@ -4,7 +4,7 @@
 # breaks, comments and attributes may stand anywhere. A function is public if it is `pub`, in whatever module, or is exported to C, or
 # stands in a `pub trait`. It complains of a public function that has any clause but `ensures`.
 #
-# An `impl` of a trait has no name, and its functions are not `pub`. Where the trait stands in the same module, what they promise is what the
+# An `impl` of a trait has no name, and its functions are not `pub`. Where the trait stands in the same module of the same file, what they promise is what the
 # trait's functions do, which are listed. Where it is one of the library, the promise stands in the `impl` itself, in the ghost members that
 # are named below, and its functions are listed under the name that the toolchain gives the `impl`: TYPETRAITARGUMENTS.
 #
@@ -171,7 +171,7 @@ function open_impl(    name) {
     name = capital(named) impl_of given
     impls++
     impl_trait[impls] = impl_of
-    impl_key[impls] = way == "" ? crate SUBSEP modules[depth] SUBSEP impl_of : ""
+    impl_key[impls] = way == "" ? file SUBSEP modules[depth] SUBSEP impl_of : ""
     impl_place[impls] = file ":" line
     if ((impl_of in members) && way != "" && way != homes[impl_of] "::" && way != "std::" homes[impl_of] "::")
         complain(file ":" line, "an `impl` of " way impl_of ", which this script does not know")
@@ -187,7 +187,7 @@ function in_trait(t) {
         if (t in members || t in is_trait ||
             t ~ /^((Into)?Iterator|Model|Owns|Clone|Copy|Hash|(Partial)?(Eq|Ord)|Fn(Mut|Once)?|TryFrom|Default|Display|Error|Drop)$/)
             complain(file ":" line, "a second trait " t)
-        is_trait[t] = trait_at[crate, modules[depth], t] = 1
+        is_trait[t] = trait_at[file, modules[depth], t] = 1
         is_type[crate, join(modules[depth], t)] = 1
     }
     else if (named != "" && t == "{") open_level(modules[depth], named, visible == "pub" ? "public trait" : "trait")
