@@ -2,11 +2,13 @@
 // that no care copies the table. It relies on the contracts of `board_visit_care`, `board_gate`, `board_numbers` and `agent_request` alone.
 #![tactic(auto)]
 
-ghost use Rattle.std.specs.Prelude.{◌≡◌};
+ghost use Rattle.std.specs.Prelude.{◌≡◌, ◌&&◌};
+ghost use Rattle.agent_request.specs.Request.{in_use};
 ghost use Rattle.repair_rules.specs.Repair.{brings_on};
 ghost use Rattle.repair_rules.specs.Log.{care_logged, place_after};
 ghost use Rattle.repair_pass.specs.Passes.{PassLeaves};
 
+use agent_request::Request;
 use board_call::{AnyCall, Call};
 use board_rules::Seen;
 use board_slots::Board;
@@ -18,6 +20,13 @@ pub struct PassMade {
     pub board: Board,
     pub cares: usize,
     pub progress: bool,
+}
+
+// Whether a slot is cared for, q being its request and `shut` whether its node is fenced.
+fn is_lost(q: Request, shut: bool) -> bool
+    ensures { result ≡ (in_use q && shut) }
+{
+    agent_request::in_use(q) && shut
 }
 
 // Whether a care with this outcome brings something on: not a refused one, 0, nor one told waiting, 3, or not yet clear, 9.
@@ -54,8 +63,7 @@ pub fn pass(mut b: Board, words: &mut [u64], log: &mut [u8], at: usize) -> PassM
     for n in 0..256usize {
         let q = b.slots[n];
         let node = b.nodes[n];
-        let lost = agent_request::in_use(q) && b.fenced[node as usize];
-        if !lost {
+        if !is_lost(q, b.fenced[node as usize]) {
             continue;
         }
         let Seen { request, answer } = board_visit_care::care_visit(q, words);
